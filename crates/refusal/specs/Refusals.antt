@@ -1,0 +1,21 @@
+-- The numbers of the refusals: document 01, "Numbered refusals".
+use Prim.Native.Nat.{ℕ}
+use Rattle.refusal.specs.declared.Refusal.{Refusal}
+use Rattle.refusal.specs.declared.Refusal.the-variants.{StartTooLarge, RangeTooLong, NoBlockSize, BufferTooShort, WrongCentroids, WrongDocuments, EmptySummary, OutsideLimits, MalformedList, WrongQuery, NothingToKeep, WrongKeptList, PastTheTerms, WrongTerms, NoSuchStart}
+
+abbrev pub numberOf : Refusal → ℕ
+numberOf StartTooLarge = 1
+numberOf RangeTooLong = 2
+numberOf NoBlockSize = 3
+numberOf BufferTooShort = 4
+numberOf WrongCentroids = 5
+numberOf WrongDocuments = 6
+numberOf EmptySummary = 7
+numberOf OutsideLimits = 8
+numberOf MalformedList = 9
+numberOf WrongQuery = 10
+numberOf NothingToKeep = 11
+numberOf WrongKeptList = 12
+numberOf PastTheTerms = 13
+numberOf WrongTerms = 14
+numberOf NoSuchStart = 15
