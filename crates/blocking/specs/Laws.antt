@@ -1,0 +1,77 @@
+-- Laws of fixed blocking. Assumes nothing.
+use Prim.Native.Nat.{ℕ, zero, suc, _+_, _*_, _≤_, _<_, _/_, _%_}
+use mathlib.Core.Path.{_≡_, refl, sym, ap, _∙_}
+use mathlib.Core.Bool.{true}
+use mathlib.Core.List.{List, [], _∷_, _++_, map, map-append}
+use native.Mathlib.Nat.{div-eq-of-lt, div-mul-le-self, div-add-mod', mod-lt}
+use native.Mathlib.Omega.{arith}
+use lib.Ieee.{Float}
+use lib.ListN.{length, getD, length-append, length-map, List·getD-append}
+use borrow.Author.Tests.{le-leb}
+use Rattle.lists.specs.Lists.{from, lastOr, neverFalls, between}
+use Rattle.blocking.specs.Blocking.{starts, fixedOffsets, centroidCount}
+
+-- ---- the starts of k blocks
+from-more : (a k : ℕ) → from a (suc k) ≡ from a k ++ ((a + k) ∷ [])
+from-more a zero = let e : a ≡ a + 0 = omega arith in ap (λ n. n ∷ []) e
+from-more a (suc k) = let e : suc a + k ≡ a + suc k = omega arith in ap (λ l. a ∷ l) (from-more (suc a) k ∙ ap (λ n. from (suc a) k ++ (n ∷ [])) e)
+
+length-from : (a k : ℕ) → length (from a k) ≡ k
+length-from a zero = refl
+length-from a (suc k) = ap suc (length-from (suc a) k)
+
+pub starts-more : (b k : ℕ) → starts b (suc k) ≡ starts b k ++ ((k * b) ∷ [])
+starts-more b k = let e : 0 + k ≡ k = omega arith in ap (map (λ i. i * b)) (from-more 0 k) ∙ map-append (λ i. i * b) (from 0 k) ((0 + k) ∷ []) ∙ ap (λ n. starts b k ++ ((n * b) ∷ [])) e
+
+pub length-starts : (b k : ℕ) → length (starts b k) ≡ k
+length-starts b k = length-map (from 0 k) (λ i. i * b) ∙ length-from 0 k
+
+-- ---- how many offsets there are: one more than blocks
+pub offsets-number : (n b : ℕ) → length (fixedOffsets n b) ≡ suc (n / b)
+unfolding fixedOffsets
+offsets-number n b = length-append (starts b (n / b)) (n ∷ []) ∙ omega (arith, length-starts b (n / b))
+
+-- ---- they never fall
+never-fall : (b n a k : ℕ) → (a + k) * b ≤ n → neverFalls (map (λ i. i * b) (from a k) ++ (n ∷ [])) ≡ true
+never-fall b n a zero h = refl
+never-fall b n a (suc zero) h = rw (le-leb (a * b) n (omega arith))
+never-fall b n a (suc (suc k)) h = rw (le-leb (a * b) (suc a * b) (omega arith)) (never-fall b n (suc a) (suc k) (omega arith))
+
+pub offsets-never-fall : (n b : ℕ) → neverFalls (fixedOffsets n b) ≡ true
+unfolding fixedOffsets
+offsets-never-fall n b = never-fall b n 0 (n / b) (omega (arith, div-mul-le-self n b))
+
+-- ---- the last one is the length of the list
+pub last-end : (d : ℕ) (l : List ℕ) (x : ℕ) → lastOr d (l ++ (x ∷ [])) ≡ x
+last-end d [] x = refl
+last-end d (y ∷ l) x = last-end y l x
+
+pub offsets-last : (n b : ℕ) → lastOr 0 (fixedOffsets n b) ≡ n
+unfolding fixedOffsets
+offsets-last n b = last-end 0 (starts b (n / b)) n
+
+-- ---- each block starts b past the one before it
+get-from : (b a k i : ℕ) → i < k → getD (map (λ j. j * b) (from a k)) i 0 ≡ (a + i) * b
+get-from b a zero i h = absurd (omega arith)
+get-from b a (suc k) zero h = omega arith
+get-from b a (suc k) (suc i) h = get-from b (suc a) k i (omega arith) ∙ omega arith
+
+pub offset-at : (n b i : ℕ) → i < n / b → getD (fixedOffsets n b) i 0 ≡ i * b
+unfolding fixedOffsets
+offset-at n b i h = List·getD-append (starts b (n / b)) (n ∷ []) 0 i (omega (arith, length-starts b (n / b))) ∙ get-from b 0 (n / b) i h ∙ omega arith
+
+-- and the last one, which starts at k x b, holds at least b ids and fewer than 2 b
+pub last-block : (n b k : ℕ) → 0 < b → n / b ≡ suc k → (k * b + b ≤ n) × (n < k * b + 2 * b)
+last-block n b k p e = let q : suc k * b + n % b ≡ n = ap (λ j. j * b + n % b) (sym e) ∙ div-add-mod' n b in omega (arith, mod-lt n p)
+
+-- ---- a list shorter than b has one offset and no blocks
+pub short-list : (n b : ℕ) → n < b → fixedOffsets n b ≡ n ∷ []
+unfolding fixedOffsets
+short-list n b h = ap (λ k. starts b k ++ (n ∷ [])) (div-eq-of-lt h)
+
+pub no-blocks : {A : Type 0} (n b : ℕ) (ids : List A) → n < b → between (fixedOffsets n b) ids ≡ []
+no-blocks n b ids h = ap (λ offsets. between offsets ids) (short-list n b h)
+
+-- ---- there is at least one centroid
+pub some-centroid : (fraction : Float) (n : ℕ) → 1 ≤ centroidCount fraction n
+some-centroid fraction n = omega arith

@@ -1,0 +1,6 @@
+pub mod Limits
+pub mod Blocking
+pub mod Laws
+pub mod Shares
+pub mod Promises
+pub mod Cases

@@ -1,0 +1,4 @@
+pub mod Packing
+pub mod Laws
+pub mod Promises
+pub mod Cases

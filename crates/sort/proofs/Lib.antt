@@ -1,0 +1,3 @@
+pub mod ExchangeLaws
+pub mod InsertionLaws
+pub mod QuickLaws
