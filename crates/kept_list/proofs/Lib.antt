@@ -1,0 +1,4 @@
+pub mod Climbing
+pub mod Settling
+pub mod Soundness
+pub mod Verdicts

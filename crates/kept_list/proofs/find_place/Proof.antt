@@ -1,0 +1,66 @@
+-- `kept_list::find_place` meets its contract, by the cases of `Settling`. Assumes nothing.
+use Prim.Native.Nat.{_-_}
+use native.Mathlib.Omega.{arith}
+use mathlib.Core.Path.{sym, _∙_}
+use borrow.Author.Needs.{needs}
+use Rattle.kept_list.proofs.Settling.{full, keeps-none, no-room, adds, not-full, at-k-stays, at-k-replaces}
+use Rattle.kept_list.proofs.find_place.Statement.{statement}
+use Rattle.kept_list.proofs.find_place.Tie as tie
+
+returns : tie.Need-returns
+returns c =
+    let a = c .before .before .before .args in
+    keeps-none (a .k) (a .e) (a .length) (a .packed .now) (a .scores .now) (c .if1 .taken)
+
+sub-last : tie.Need-sub-last
+sub-last c = search needs
+
+returns-2 : tie.Need-returns-2
+returns-2 c =
+    let a = c .before .before .before .before .before .args in
+    no-room (a .k) (a .e) (a .length) (a .packed .now) (a .scores .now) (c .before .if2 .taken) (c .if3 .taken)
+
+returns-3 : tie.Need-returns-3
+returns-3 c =
+    let a = c .before .before .before .before .before .args in
+    adds (a .k) (a .e) (a .length) (a .packed .now) (a .scores .now) (c .before .if2 .taken) (c .if3 .left)
+
+returns-4 : tie.Need-returns-4
+returns-4 c =
+    let a = c .before .before .before .before .before .args in
+    not-full (a .k) (a .e) (a .length) (a .packed .now) (a .scores .now) (c .before .if2 .left) (c .if4 .taken)
+
+entry-requires : tie.Need-entry-requires
+entry-requires c κs =
+    let a = c .before .before .before .before .before .args in
+    let r = full (a .k) (a .length) (a .packed .now) (a .scores .now) (c .before .if2 .left) (c .if4 .left) in
+    search needs
+
+better-requires : tie.Need-better-requires
+better-requires c κs = search needs
+
+returns-5 : tie.Need-returns-5
+returns-5 c =
+    let a = c .before .before .before .before .before .before .before .before .args in
+    let r = full (a .k) (a .length) (a .packed .now) (a .scores .now) (c .before .before .before .before .if2 .left) (c .before .before .before .if4 .left) in
+    at-k-replaces (a .k) (a .e) (a .length) (a .packed .now) (a .scores .now) (a .k - 1) (omega (arith, c .before .before .before .before .before .if1 .left)) r _ (c .before .before .entry .ensures) (sym (c .before .better .ensures) ∙ c .if5 .taken)
+
+returns-6 : tie.Need-returns-6
+returns-6 c =
+    let a = c .before .before .before .before .before .before .before .before .args in
+    let r = full (a .k) (a .length) (a .packed .now) (a .scores .now) (c .before .before .before .before .if2 .left) (c .before .before .before .if4 .left) in
+    at-k-stays (a .k) (a .e) (a .length) (a .packed .now) (a .scores .now) (a .k - 1) (omega (arith, c .before .before .before .before .before .if1 .left)) r _ (c .before .before .entry .ensures) (sym (c .before .better .ensures) ∙ c .if5 .left)
+
+pub find-place-spec : {M : Type 1} → statement M
+find-place-spec =
+    tie.close
+    (tie.spec
+    returns
+    sub-last
+    returns-2
+    returns-3
+    returns-4
+    entry-requires
+    better-requires
+    returns-5
+    returns-6)

@@ -1,0 +1,158 @@
+-- `kept_list::insert` meets its contract: what the entry has still to pass gives what all of it gives. Assumes nothing.
+use Prim.Native.Nat.{_-_}
+use native.Mathlib.Omega.{arith}
+use mathlib.Core.Path.{refl, sym, _∙_}
+use lib.ListN.{set, length-set}
+use borrow.Author.Needs.{needs}
+use borrow.Author.Tests.{not-true, not-false}
+use Rattle.kept_list.proofs.Climbing.{Climbing, climb-start, climb-up, climb-stay, climb-top, laid-down}
+use Rattle.kept_list.proofs.insert.Statement.{statement}
+use Rattle.kept_list.proofs.insert.Tie as tie
+
+abbrev Inv-loop : tie.InvT-loop
+Inv-loop at packed₀ scores₀ e i₀ packed scores i = Climbing at packed₀ scores₀ e packed scores i
+
+abbrev μ-loop : tie.MeasureT-loop
+μ-loop at packed₀ scores₀ e i₀ packed scores i = i
+
+mul-packed : tie.Need-mul-packed Inv-loop μ-loop
+mul-packed c = search needs
+
+slice-write-packed : tie.Need-slice-write-packed Inv-loop μ-loop
+slice-write-packed c = search needs
+
+mul-scores : tie.Need-mul-scores Inv-loop μ-loop
+mul-scores c = search needs
+
+slice-write-scores : tie.Need-slice-write-scores Inv-loop μ-loop
+slice-write-scores c = search needs
+
+loop-holds : tie.Need-loop-holds Inv-loop μ-loop
+loop-holds c =
+    let s = c .before .before .args in
+    let p = c .before .before .pre in
+    climb-start (s .at) (s .packed .now) (s .scores .now) (s .e) (p .0) (p .1)
+
+sub-j : tie.Need-sub-j Inv-loop μ-loop
+sub-j c = search needs
+
+mul-t12 : tie.Need-mul-t12 Inv-loop μ-loop
+mul-t12 c = search needs
+
+slice-read-t14 : tie.Need-slice-read-t14 Inv-loop μ-loop
+slice-read-t14 c = search needs
+
+mul-t15 : tie.Need-mul-t15 Inv-loop μ-loop
+mul-t15 c = search needs
+
+slice-read-t17 : tie.Need-slice-read-t17 Inv-loop μ-loop
+slice-read-t17 c = search needs
+
+better-requires : tie.Need-better-requires Inv-loop μ-loop
+better-requires c κs = search needs
+
+same-length : tie.Need-same-length Inv-loop μ-loop
+same-length c =
+    let s = c .before .before .before .before .before .before .before .before .args in
+    c .before .before .before .before .before .loop .inv .as-many ∙ length-set (s .packed .now) (s .at) (s .e .packed)
+
+same-length-2 : tie.Need-same-length-2 Inv-loop μ-loop
+same-length-2 c =
+    let s = c .before .before .before .before .before .before .before .before .args in
+    c .before .before .before .before .before .loop .inv .as-many-scores ∙ length-set (s .scores .now) (s .at) (s .e .score)
+
+returns : tie.Need-returns Inv-loop μ-loop
+returns c =
+    let s = c .before .before .before .before .before .before .before .before .args in
+    let p = c .before .before .before .before .before .before .before .before .pre in
+    let l = c .before .before .before .before .before .loop in
+    climb-stay (s .at) (set (s .packed .now) (s .at) (s .e .packed)) (set (s .scores .now) (s .at) (s .e .score)) (s .e) (l .packed) (l .scores) (l .i) (l .i - 1) (omega arith) (l .inv)
+    _ refl (sym (c .before .better .ensures) ∙ not-true _ (c .if1 .taken))
+    ∙ laid-down (s .e) (s .at) (s .packed .now) (s .scores .now) (p .0) (p .1)
+
+mul-packed-2 : tie.Need-mul-packed-2 Inv-loop μ-loop
+mul-packed-2 c = search needs
+
+slice-write-packed-2 : tie.Need-slice-write-packed-2 Inv-loop μ-loop
+slice-write-packed-2 c = search needs
+
+mul-scores-2 : tie.Need-mul-scores-2 Inv-loop μ-loop
+mul-scores-2 c = search needs
+
+slice-write-scores-2 : tie.Need-slice-write-scores-2 Inv-loop μ-loop
+slice-write-scores-2 c = search needs
+
+mul-packed-3 : tie.Need-mul-packed-3 Inv-loop μ-loop
+mul-packed-3 c = search needs
+
+slice-write-packed-3 : tie.Need-slice-write-packed-3 Inv-loop μ-loop
+slice-write-packed-3 c = simp length-set (omega arith)
+
+mul-scores-3 : tie.Need-mul-scores-3 Inv-loop μ-loop
+mul-scores-3 c = search needs
+
+slice-write-scores-3 : tie.Need-slice-write-scores-3 Inv-loop μ-loop
+slice-write-scores-3 c = simp length-set (omega arith)
+
+loop-less : tie.Need-loop-less Inv-loop μ-loop
+loop-less c = search needs
+
+loop-again : tie.Need-loop-again Inv-loop μ-loop
+loop-again c =
+    let s = c .before .before .before .before .before .before .before .before .args in
+    let p = c .before .before .before .before .before .before .before .before .pre in
+    let l = c .before .before .before .before .before .loop in
+    climb-up (s .at) (set (s .packed .now) (s .at) (s .e .packed)) (set (s .scores .now) (s .at) (s .e .score)) (s .e) (l .packed) (l .scores) (l .i) (l .i - 1) (omega arith) (l .inv)
+    _ refl (sym (c .before .better .ensures) ∙ not-false _ (c .if1 .left))
+
+same-length-3 : tie.Need-same-length-3 Inv-loop μ-loop
+same-length-3 c =
+    let s = c .before .before .before .before .args in
+    c .before .loop .inv .as-many ∙ length-set (s .packed .now) (s .at) (s .e .packed)
+
+same-length-4 : tie.Need-same-length-4 Inv-loop μ-loop
+same-length-4 c =
+    let s = c .before .before .before .before .args in
+    c .before .loop .inv .as-many-scores ∙ length-set (s .scores .now) (s .at) (s .e .score)
+
+returns-2 : tie.Need-returns-2 Inv-loop μ-loop
+returns-2 c =
+    let s = c .before .before .before .before .args in
+    let p = c .before .before .before .before .pre in
+    let l = c .before .loop in
+    climb-top (s .at) (set (s .packed .now) (s .at) (s .e .packed)) (set (s .scores .now) (s .at) (s .e .score)) (s .e) (l .packed) (l .scores) (l .i) (c .loop-test .left) (l .inv)
+    ∙ laid-down (s .e) (s .at) (s .packed .now) (s .scores .now) (p .0) (p .1)
+
+pub insert-spec : {M : Type 1} → statement M
+insert-spec =
+    tie.close
+    (tie.spec
+    Inv-loop
+    μ-loop
+    mul-packed
+    slice-write-packed
+    mul-scores
+    slice-write-scores
+    loop-holds
+    sub-j
+    mul-t12
+    slice-read-t14
+    mul-t15
+    slice-read-t17
+    better-requires
+    same-length
+    same-length-2
+    returns
+    mul-packed-2
+    slice-write-packed-2
+    mul-scores-2
+    slice-write-scores-2
+    mul-packed-3
+    slice-write-packed-3
+    mul-scores-3
+    slice-write-scores-3
+    loop-less
+    loop-again
+    same-length-3
+    same-length-4
+    returns-2)

@@ -1,0 +1,16 @@
+pub mod Keep
+pub mod Order
+pub mod Pushing
+pub mod Sorted
+pub mod Best
+pub mod Stable
+pub mod LeftOut
+pub mod Entry
+pub mod Lent
+pub mod Laid
+pub mod Place
+pub mod Push
+pub mod WellKept
+pub mod Told
+pub mod Promises
+pub mod Cases

@@ -1,0 +1,187 @@
+// The kept list: the k best ranges found so far, best first. It lies in lent memory as two slices side by side, packed
+// numbers and scores, with the number of entries beside them.
+use refusal::Refusal;
+use refusal::Verdict;
+ghost use mathlib.Core.Path.{_≡_};
+ghost use Prim.Native.Nat.{suc, min, _≤_, _<_, _+_};
+ghost use lib.ListN.{length as len, getD};
+ghost use lib.Ieee.{nan};
+ghost use Rattle.kept_list.specs.Entry.{scored, better as isBetter};
+ghost use Rattle.kept_list.specs.Lent.{lent, entryAt, entries, inserted, settled};
+ghost use Rattle.kept_list.specs.Place.{Placed};
+ghost use Rattle.kept_list.specs.Push.{sound, wellKept, verdictOf, left, pushed};
+
+// A range found, with its score.
+pub struct Scored {
+    pub packed: u64,
+    pub score: f32,
+}
+
+impl Scored {
+    pub fn new(packed: u64, score: f32) -> Self
+        ensures { λ r. ⌜ r ≡ scored packed score ⌝ }
+    {
+        Self { packed, score }
+    }
+
+    // Whether this one stands before the other: greater score first by total order; equal scores: smaller packed number first.
+    pub fn better(self, other: Scored) -> bool
+        ensures { λ r. ⌜ r ≡ isBetter self other ⌝ }
+    {
+        let x = float32::key(self.score);
+        let y = float32::key(other.score);
+        (y < x) | ((x == y) & (self.packed < other.packed))
+    }
+}
+
+// The entry at a place of the two slices.
+fn entry(at: usize, packed: &[u64], scores: &[f32]) -> Scored
+    requires { ⌜ at < len (now packed) ⌝ }
+    requires { ⌜ at < len (now scores) ⌝ }
+    ensures { λ r. ⌜ r ≡ entryAt at (now (packed .entry)) (now (scores .entry)) ⌝ }
+{
+    Scored::new(packed[at], scores[at])
+}
+
+// The entry is laid down at a place and goes up past the worse ones right above it, exchanged with each.
+fn insert(at: usize, packed: &mut [u64], scores: &mut [f32], e: Scored)
+    requires { ⌜ (at < len (now packed)) × (at < len (now scores)) ⌝ }
+    ensures { λ _. ⌜ lent (at + 1) (now (packed .exit)) (now (scores .exit)) ≡ inserted e (lent at (now (packed .entry)) (now (scores .entry))) ⌝ }
+{
+    packed[at] = e.packed;
+    scores[at] = e.score;
+    let mut i = at;
+    while 0 < i {
+        let j = i - 1;
+        let above = Scored {
+            packed: packed[j],
+            score: scores[j],
+        };
+        if !e.better(above) {
+            return;
+        }
+        packed[i] = above.packed;
+        scores[i] = above.score;
+        packed[j] = e.packed;
+        scores[j] = e.score;
+        i = j;
+    }
+}
+
+// Where an entry is laid down before it goes up.
+enum Place {
+    At(usize),
+    Nowhere,
+}
+
+// Below k an entry is laid down past the others; at k in place of the worst one, if it is better; else nowhere, as
+// where more than k are kept or there is no room. At k one comparison decides, however large k is.
+fn find_place(k: u64, length: u64, packed: &[u64], scores: &[f32], e: Scored) -> Place
+    ensures { λ r. ⌜ Placed k e (lent length (now (packed .entry)) (now (scores .entry))) r ⌝ }
+{
+    let n = length as usize;
+    let most = k as usize;
+    if most == 0 {
+        return Place::Nowhere;
+    }
+    let last = most - 1;
+    if n < most {
+        if (packed.len() <= n) | (scores.len() <= n) {
+            return Place::Nowhere;
+        }
+        return Place::At(n);
+    }
+    if (most < n) | (packed.len() < n) | (scores.len() < n) {
+        return Place::Nowhere;
+    }
+    let worst = entry(last, packed, scores);
+    if e.better(worst) {
+        return Place::At(last);
+    }
+    Place::Nowhere
+}
+
+// A push without its refusals. Below k the entry is added; at k it replaces the worst one only if it is better.
+// Nothing changes where more than k are kept or there is no room.
+// At k an entry that is not better costs one comparison; any other is exchanged with each worse one.
+pub fn settle(k: u64, length: &mut u64, packed: &mut [u64], scores: &mut [f32], e: Scored)
+    ensures { λ _. ⌜ lent (now (length .exit)) (now (packed .exit)) (now (scores .exit))
+        ≡ settled k e (lent (now (length .entry)) (now (packed .entry)) (now (scores .entry))) ⌝ }
+{
+    if let Place::At(at) = find_place(k, *length, packed, scores, e) {
+        *length = (at + 1) as u64;
+        insert(at, packed, scores, e);
+    }
+}
+
+// Whether the first entries of the slices, at least one, stand best first without a NaN. A NaN is above every score, so in
+// a list in order it would stand first. One pass without an early exit, which the compiler can do several entries at a time.
+fn is_sound(length: usize, packed: &[u64], scores: &[f32]) -> bool
+    requires { ⌜ (0 < length) × (length ≤ len (now packed)) ⌝ }
+    requires { ⌜ length ≤ len (now scores) ⌝ }
+    ensures { λ r. ⌜ r ≡ sound (entries (lent length (now (packed .entry)) (now (scores .entry)))) ⌝ }
+{
+    let first = scores[0];
+    let mut ok = first == first;
+    let mut i = 1;
+    while i < length {
+        let above = entry(i - 1, packed, scores);
+        ok = ok & !entry(i, packed, scores).better(above);
+        i += 1;
+    }
+    ok
+}
+
+// Whether refusal 12 finds no fault with a kept list: at most k entries, no more than the buffers hold, best first, no NaN.
+pub fn is_well_kept(k: u64, length: u64, packed: &[u64], scores: &[f32]) -> bool
+    ensures { λ r. ⌜ r ≡ wellKept k (lent length (now (packed .entry)) (now (scores .entry))) ⌝ }
+{
+    let n = length as usize;
+    if !((length <= k) & ((n <= packed.len()) & (n <= scores.len()))) {
+        return false;
+    }
+    if n == 0 {
+        return true;
+    }
+    is_sound(n, packed, scores)
+}
+
+// How many entries there are after a push.
+fn after_push(k: u64, length: u64) -> u64
+    ensures { λ r. ⌜ r ≡ min (suc length) k ⌝ }
+{
+    if length < k { length + 1 } else { k }
+}
+
+// The verdict on a push.
+fn admit(k: u64, length: u64, packed: &[u64], scores: &[f32], e: Scored) -> Verdict
+    ensures { λ r. ⌜ r ≡ verdictOf k e (lent length (now (packed .entry)) (now (scores .entry))) ⌝ }
+{
+    if k == 0 {
+        return Verdict::Refused(Refusal::NothingToKeep);
+    }
+    let x = e.score;
+    if !(is_well_kept(k, length, packed, scores) & (x == x)) {
+        return Verdict::Refused(Refusal::WrongKeptList);
+    }
+    let need = after_push(k, length) as usize;
+    if !((need <= packed.len()) & (need <= scores.len())) {
+        return Verdict::Refused(Refusal::BufferTooShort);
+    }
+    Verdict::Accepted
+}
+
+// A push onto the kept list. Refused with 11 where k is 0; with 12 where the kept entries number more than k or than the
+// buffers hold, are out of order, or they or the pushed score hold a NaN; with 4 where a buffer has no place for the result.
+// A refused push changes nothing.
+pub fn push(k: u64, length: &mut u64, packed: &mut [u64], scores: &mut [f32], e: Scored) -> Verdict
+    ensures { λ r. ⌜ left r (lent (now (length .exit)) (now (packed .exit)) (now (scores .exit)))
+        ≡ pushed k e (lent (now (length .entry)) (now (packed .entry)) (now (scores .entry))) ⌝ }
+{
+    let verdict = admit(k, *length, packed, scores, e);
+    if let Verdict::Refused(_) = verdict {
+        return verdict;
+    }
+    settle(k, length, packed, scores, e);
+    verdict
+}
