@@ -2,13 +2,11 @@
 use Prim.Native.Nat.{ℕ, suc, _+_, _-_, _≤_, _<_, min}
 use native.Mathlib.Omega.{arith}
 use native.Mathlib.Numerals.{add-one}
-use mathlib.Core.Path.{_≡_, refl, sym, ap, _∙_}
+use mathlib.Core.Path.{_≡_, sym, ap, _∙_}
 use mathlib.Core.Bool.{Bool, _&&_, and-true, and-assoc}
 use mathlib.Core.List.{List}
 use lib.ListN.{length, getD, take, drop, length-take, length-drop}
 use lib.Seq.{drop-cons, drop-length}
-use lib.Dec.{eqb}
-use lib.Ieee.{Float}
 use borrow.Author.Tests.{eq-eqb}
 use Rattle.lists.specs.Lists.{every}
 use Rattle.documents.specs.declared.TermPlaces.{TermPlaces}

@@ -1,7 +1,7 @@
 -- Documents: their ranges, their terms, and the dot product. Document 01, "Numbers", "Scores" and "Page number".
-use Prim.Native.Nat.{ℕ, suc, _+_, _-_}
+use Prim.Native.Nat.{ℕ, suc, _-_}
 use mathlib.Core.Bool.{Bool, false, not, _&&_, _||_}
-use mathlib.Core.List.{List, [], _∷_, map, foldl, zipWith}
+use mathlib.Core.List.{List, map, foldl, zipWith}
 use lib.ListN.{length, getD, take}
 use lib.IntN.{pos}
 use lib.Dec.{leb, eqb}

@@ -1,17 +1,17 @@
 -- What follows for those who read documents that hold. Assumes nothing.
-use Prim.Native.Nat.{ℕ, zero, suc, _+_, _-_, _≤_, _<_}
+use Prim.Native.Nat.{ℕ, zero, suc, _-_, _≤_, _<_}
 use native.Mathlib.Omega.{arith}
-use mathlib.Core.Path.{_≡_, refl, sym, ap, _∙_, subst}
+use mathlib.Core.Path.{_≡_, refl, sym, ap, _∙_}
 use mathlib.Core.Bool.{Bool, true, false, _&&_, true≢false, and-true, and-false}
 use mathlib.Core.List.{List, [], _∷_, map, zipWith}
-use lib.ListN.{length, getD, take, drop, length-take, length-drop}
+use lib.ListN.{length, getD}
 use lib.Dec.{leb, ltb, eqb}
 use lib.Ieee.{Float}
-use borrow.Author.Tests.{leb-true, ltb-true, eqb-true, eqb-false, eq-eqb, ne-eqb, lt-ltb, le-leb}
+use borrow.Author.Tests.{leb-true, ltb-true, eqb-true, eq-eqb, ne-eqb, lt-ltb, le-leb}
 use Rattle.float32.specs.Bound.{inBound}
-use Rattle.lists.specs.Lists.{EachOf, every, firstOr, lastOr, part, withKey, neverFalls, strictlyRise}
-use Rattle.documents.specs.Documents.{Term, term, paired, Documents, documents, count, start, size, terms, valuesAt}
-use Rattle.documents.specs.Checks.{offsetsHoldFree, offsetsHold, idsHold, termsHold, termsHoldBelow, slicesHold, slicesHoldBelow}
+use Rattle.lists.specs.Lists.{every, firstOr, lastOr, neverFalls, strictlyRise}
+use Rattle.documents.specs.Documents.{paired, documents}
+use Rattle.documents.specs.Checks.{offsetsHoldFree, offsetsHold, termsHold, termsHoldBelow, slicesHold, slicesHoldBelow}
 
 -- ---- two tests that both pass
 pub both : (a b : Bool) → (a && b) ≡ true → (a ≡ true) × (b ≡ true)

@@ -5,3 +5,7 @@ pub mod Laws
 pub mod Pages
 pub mod TermKeys
 pub mod Places
+pub mod Bounds
+pub mod Ranges
+pub mod Promises
+pub mod Cases

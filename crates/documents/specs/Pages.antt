@@ -2,19 +2,18 @@
 use Prim.Native.Nat.{ℕ, zero, suc, _+_, _-_, _≤_, _<_}
 use native.Mathlib.Omega.{arith}
 use native.Mathlib.Decide.{decLe}
-use mathlib.Core.Path.{_≡_, refl, sym, ap, _∙_}
-use mathlib.Core.Bool.{Bool, true, false, not, cond}
+use mathlib.Core.Path.{_≡_, refl, ap, _∙_}
+use mathlib.Core.Bool.{Bool, true, false, cond}
 use mathlib.Core.List.{List, [], _∷_}
 use lib.ListN.{length, getD}
 use lib.Dec.{eqb}
 use borrow.Author.Tests.{eq-eqb, ne-eqb, eqb-true, eqb-false}
-use Rattle.lists.specs.Lists.{those, from, firstOr}
+use Rattle.lists.specs.Lists.{those, from}
 use Rattle.refusal.specs.declared.Refusal.the-variants.{WrongDocuments, NoSuchStart}
-use Rattle.refusal.specs.First.{firstOf}
 use Rattle.documents.specs.declared.PageNumber.the-variants.{Document, Refused}
 use Rattle.documents.specs.Documents.{count, startingAt}
 use Rattle.documents.specs.Checks.{offsetsHoldFree}
-use Rattle.documents.specs.Answers.{pageTests, pageAnswer, pageNumber, Found}
+use Rattle.documents.specs.Answers.{pageNumber, Found}
 
 -- ---- of the numbers from a on, those that pass a test
 module _ (p : ℕ → Bool) where

@@ -1,14 +1,14 @@
 -- A document's terms by their places in the slices. Assumes nothing.
-use Prim.Native.Nat.{ℕ, zero, suc, _+_, _-_, _≤_, _<_, min}
+use Prim.Native.Nat.{ℕ, zero, suc, _+_, _-_, _≤_, min}
 use native.Mathlib.Omega.{arith}
 use native.Mathlib.Decide.{decLe}
 use mathlib.Core.Path.{_≡_, refl, sym, ap, _∙_}
 use mathlib.Core.List.{List, [], _∷_, zipWith}
-use lib.ListN.{length, getD, take, drop, length-drop}
+use lib.ListN.{length, getD, take, drop, length-drop, drop-of-length-le}
 use lib.Seq.{take-all, take-nil}
 use lib.Ieee.{Float}
 use Rattle.lists.specs.Lists.{part}
-use Rattle.documents.specs.Documents.{Term, term, paired, Documents, start, size, terms}
+use Rattle.documents.specs.Documents.{term, paired, Documents, start, size, terms}
 use Rattle.documents.specs.Answers.{placesOf}
 
 -- ---- pairs, and parts of them
@@ -45,19 +45,13 @@ terms-part d i =
     ∙ ap (take (size d i)) (paired-drop (start d i) (d .components) (d .values))
 
 -- ---- a part that is cut to what there is
-drop-past : {A : Type 0} (s : ℕ) (l : List A) → length l ≤ s → drop s l ≡ []
-drop-past zero [] h = refl
-drop-past zero (x ∷ l) h = let z : ⊥ = omega arith in absurd z
-drop-past (suc s) [] h = refl
-drop-past (suc s) (x ∷ l) h = drop-past s l (omega arith)
-
 pub part-cut : {A : Type 0} (s n : ℕ) (l : List A) → part s n l ≡ part (min s (length l)) (min (s + n) (length l) - min s (length l)) l
 part-cut s n l = go (decLe (length l) s) (decLe (s + n) (length l))
   where
     go : Dec (length l ≤ s) → Dec (s + n ≤ length l) → part s n l ≡ part (min s (length l)) (min (s + n) (length l) - min s (length l)) l
     go (yes h) d =
         let e : min (s + n) (length l) - min s (length l) ≡ 0 = omega arith in
-        ap (take n) (drop-past s l h) ∙ take-nil n ∙ ap (λ k. take k (drop (min s (length l)) l)) (sym e)
+        ap (take n) (drop-of-length-le l h) ∙ take-nil n ∙ ap (λ k. take k (drop (min s (length l)) l)) (sym e)
     go (no h) (yes k) =
         let e : min (s + n) (length l) - min s (length l) ≡ n = omega arith in
         let f : min s (length l) ≡ s = omega arith in

@@ -1,5 +1,4 @@
 -- The loop's invariant: the offsets before `low` are below the start, those from `high` on are not. Assumes nothing.
-use mathlib.Core.Path.{_≡_, refl, sym, ap, _∙_}
 use native.Mathlib.Omega.{arith}
 use Prim.Native.Nat.{ℕ, _≤_, _<_, _-_, _+_, _/_}
 use lib.ListN.{getD}

@@ -1,5 +1,5 @@
 -- Each way out by the part of the check that decides there. Assumes nothing.
-use mathlib.Core.Path.{_≡_, refl, sym, ap, _∙_}
+use mathlib.Core.Path.{sym, _∙_}
 use native.Mathlib.Omega.{arith}
 use Rattle.documents.specs.Laws.{offsets-hold-none, offsets-hold-uneven, offsets-hold-past, offsets-hold-rest}
 use borrow.Author.Needs.{needs}

@@ -1,7 +1,7 @@
 -- Each way out by what the search found there. Assumes nothing.
-use mathlib.Core.Path.{_≡_, refl, sym, ap, _∙_}
+use mathlib.Core.Path.{sym, _∙_}
 use native.Mathlib.Omega.{arith}
-use borrow.Author.Tests.{eqb-true, not-true, not-false}
+use borrow.Author.Tests.{not-true, not-false}
 use Rattle.documents.specs.Laws.{free-some, free-never-falls, never-falls-at}
 use Rattle.documents.specs.Pages.{page-refused, page-found, page-none, found-first, found-none, other}
 use borrow.Author.Needs.{needs}

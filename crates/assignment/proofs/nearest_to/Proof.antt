@@ -1,0 +1,74 @@
+-- `assignment::nearest_to` meets its contract. Assumes nothing.
+use Rattle.centroid_index.specs.Index.{addTerms}
+use Rattle.documents.specs.Documents.{documents}
+use mathlib.Core.Path.{_≡_, refl, sym, ap, _∙_}
+use mathlib.Core.List.{List, [], _∷_, _++_, map, foldl, zipWith}
+use mathlib.Core.Logic.{⊎-elim}
+use Prim.Native.Nat.{ℕ, suc, _+_, _-_, _≤_, _<_}
+use native.Mathlib.Omega.{arith}
+use lib.ListN.{length, getD, set, take, drop, replicate, length-set}
+use borrow.Author.Needs.{needs}
+use Rattle.assignment.proofs.nearest_to.Statement.{statement}
+use Rattle.assignment.proofs.nearest_to.Tie as tie
+
+clear-values-requires : tie.Need-clear-values-requires
+clear-values-requires c κs = search needs
+
+places-of-requires : tie.Need-places-of-requires
+places-of-requires c κs = search needs
+
+mul-add-terms : tie.Need-mul-add-terms
+mul-add-terms c = search needs
+
+sub-add-terms : tie.Need-sub-add-terms
+sub-add-terms c = search needs
+
+part-add-terms-start : tie.Need-part-add-terms-start
+part-add-terms-start c = search needs
+
+part-add-terms-end : tie.Need-part-add-terms-end
+part-add-terms-end c = search needs
+
+mul-add-terms-2 : tie.Need-mul-add-terms-2
+mul-add-terms-2 c = search needs
+
+sub-add-terms-2 : tie.Need-sub-add-terms-2
+sub-add-terms-2 c = search needs
+
+part-add-terms-start-2 : tie.Need-part-add-terms-start-2
+part-add-terms-start-2 c = search needs
+
+part-add-terms-end-2 : tie.Need-part-add-terms-end-2
+part-add-terms-end-2 c = search needs
+
+add-terms-requires : tie.Need-add-terms-requires
+add-terms-requires c κs = search needs
+
+first-above-zero-requires : tie.Need-first-above-zero-requires
+first-above-zero-requires c κs = search needs
+
+same-length : tie.Need-same-length
+same-length c = search needs
+
+returns : tie.Need-returns
+returns c = let a = c .before .before .before .before .before .before .before .before .before .before .before .before .before .before .before .before .before .before .before .before .before .args in
+    (c .before .before .before .before .add-terms .ensures ∙ (λ i. addTerms (documents (a .starts .now) (a .slots .now) (a .weights .now)) (c .before .before .before .before .before .before .before .before .before .before .before .clear-values .ensures i) (sym (c .before .before .before .before .before .before .before .before .places-of .ensures .holds) i)), c .first-above-zero .ensures)
+
+pub nearest-to-spec : {M : Type 1} → statement M
+nearest-to-spec =
+    tie.close
+    (tie.spec
+    clear-values-requires
+    places-of-requires
+    mul-add-terms
+    sub-add-terms
+    part-add-terms-start
+    part-add-terms-end
+    mul-add-terms-2
+    sub-add-terms-2
+    part-add-terms-start-2
+    part-add-terms-end-2
+    add-terms-requires
+    first-above-zero-requires
+    same-length
+    returns)

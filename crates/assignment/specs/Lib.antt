@@ -1,0 +1,4 @@
+pub mod Nearest
+pub mod Loops
+pub mod Ends
+pub mod Scored

@@ -1,0 +1,126 @@
+// Which centroid takes a document: by all of its terms and the first greatest score above 0, or by its largest terms and the last
+// greatest score. Scores come through the centroids' index. Nothing is assumed of the slices.
+ghost use mathlib.Core.Path.{_≡_};
+ghost use lib.ListN.{length};
+ghost use Rattle.documents.specs.Documents.{documents, terms};
+ghost use Rattle.assignment.specs.Scored.{scoresOf};
+ghost use Rattle.assignment.specs.Nearest.{ifGreater, ifNoLess, firstAbove, lastNoLess};
+use names::DocumentId;
+
+// A centroid, by its document, with a document's score.
+pub struct Candidate {
+    pub centroid: DocumentId,
+    pub score: f32,
+}
+
+// The best so far, or another one if its score is greater.
+fn if_greater(best: Candidate, other: Candidate) -> Candidate
+    ensures { λ r. ⌜ r ≡ ifGreater best other ⌝ }
+{
+    if best.score < other.score {
+        other
+    } else {
+        best
+    }
+}
+
+// The best so far, or another one unless its score is less by total order.
+fn if_no_less(best: Candidate, other: Candidate) -> Candidate
+    ensures { λ r. ⌜ r ≡ ifNoLess best other ⌝ }
+{
+    if float32::at_most(best.score, other.score) {
+        other
+    } else {
+        best
+    }
+}
+
+// The first centroid with the greatest score above 0, else the first centroid: 0 where there is none.
+pub fn first_above_zero(centroids: &[u64], scores: &[f32]) -> DocumentId
+    ensures { λ r. ⌜ r .0 ≡ firstAbove (now (centroids .entry)) (now (scores .entry)) ⌝ }
+{
+    if centroids.len() == 0 {
+        return DocumentId(0);
+    }
+    let mut best = Candidate {
+        centroid: DocumentId(centroids[0]),
+        score: 0.0,
+    };
+    let mut i = 0usize;
+    while i < centroids.len() {
+        if scores.len() <= i {
+            return best.centroid;
+        }
+        best = if_greater(
+            best,
+            Candidate {
+                centroid: DocumentId(centroids[i]),
+                score: scores[i],
+            },
+        );
+        i += 1;
+    }
+    best.centroid
+}
+
+// The last centroid with the greatest score; another document's id where there is none.
+pub fn last_greatest(otherwise: DocumentId, centroids: &[u64], scores: &[f32]) -> DocumentId
+    ensures { λ r. ⌜ r .0 ≡ lastNoLess (otherwise .0) (now (centroids .entry)) (now (scores .entry)) ⌝ }
+{
+    if centroids.len() == 0 {
+        return otherwise;
+    }
+    if scores.len() == 0 {
+        return otherwise;
+    }
+    let mut best = Candidate {
+        centroid: DocumentId(centroids[0]),
+        score: scores[0],
+    };
+    let mut i = 1usize;
+    while i < centroids.len() {
+        if scores.len() <= i {
+            return best.centroid;
+        }
+        best = if_no_less(
+            best,
+            Candidate {
+                centroid: DocumentId(centroids[i]),
+                score: scores[i],
+            },
+        );
+        i += 1;
+    }
+    best.centroid
+}
+
+// The centroid that takes a document by all of its terms. The scores by slot stay in their slice.
+pub fn nearest_to(
+    offsets: &[u64],
+    components: &[u32],
+    values: &[f32],
+    id: DocumentId,
+    centroids: &[u64],
+    starts: &[u64],
+    slots: &[u64],
+    weights: &[f32],
+    scores: &mut [f32],
+) -> DocumentId
+    ensures { λ r. ⌜ (now (scores .exit) ≡ scoresOf (documents (now (starts .entry)) (now (slots .entry)) (now (weights .entry))) (length (now (scores .entry)))
+        (terms (documents (now (offsets .entry)) (now (components .entry)) (now (values .entry))) (id .0)))
+        × (r .0 ≡ firstAbove (now (centroids .entry)) (now (scores .exit))) ⌝ }
+{
+    counting::clear_values(scores);
+    let p = centroid_index::places_of(offsets, components, values, id);
+    let from = p.from;
+    let to = p.to;
+    centroid_index::add_terms(
+        starts,
+        slots,
+        weights,
+        &components[from..to],
+        &values[from..to],
+        scores,
+    );
+    first_above_zero(centroids, scores)
+}

@@ -1,0 +1,147 @@
+-- What a build answers, and what it leaves in the lent buffers. Document 01, "Numbered refusals".
+use Prim.Native.Nat.{ℕ}
+use mathlib.Core.Bool.{Bool, false, not}
+use mathlib.Core.List.{List, [], _∷_, _++_}
+use lib.ListN.{length, drop, replicate}
+use lib.IntN.{pos}
+use lib.Dec.{eqb}
+use lib.Ieee.{Float, fin}
+use Rattle.refusal.specs.declared.Refusal.the-variants.{BufferTooShort, EmptySummary}
+use Rattle.refusal.specs.declared.Verdict.{Verdict}
+use Rattle.refusal.specs.declared.Verdict.the-variants.{Accepted, Refused}
+use Rattle.refusal.specs.First.{Test, _gives_, firstOf}
+use Rattle.lists.specs.Lists.{every}
+use Rattle.admission.specs.Admission.{inputTests}
+use Rattle.building.specs.Built.{Input, Built, summaries, built}
+use Rattle.building.specs.Needs.{sizesOf, Scratch, scratchNeeds, scratchSuffices, Output, outputSuffices}
+
+-- the buffers that a build writes its result to
+pub record Outputs : Type 0 where
+  pub postings : List ℕ
+  pub offsets : List ℕ
+  pub components : List ℕ
+  pub componentOffsets : List ℕ
+  pub ids : List ℕ
+  pub codes : List ℕ
+  pub minimums : List Float
+  pub steps : List Float
+
+-- the buffers that it works in, by role
+pub record Scratches : Type 0 where
+  pub order : List ℕ
+  pub blocks : List ℕ
+  pub sorted : List ℕ
+  pub ranks : List ℕ
+  pub terms : List ℕ
+  pub starts : List ℕ
+  pub slots : List ℕ
+  pub weights : List Float
+  pub competing : List ℕ
+  pub numbers : List Float
+
+pub record Lent : Type 0 where
+  pub output : Outputs
+  pub scratch : Scratches
+
+unfoldable pub outputLengths : Outputs → Output
+outputLengths o = record {
+  postings = length (o .postings);
+  offsets = length (o .offsets);
+  components = length (o .components);
+  componentOffsets = length (o .componentOffsets);
+  ids = length (o .ids);
+  codes = length (o .codes);
+  minimums = length (o .minimums);
+  steps = length (o .steps);
+}
+
+unfoldable pub scratchLengths : Scratches → Scratch
+scratchLengths s = record {
+  order = length (s .order);
+  blocks = length (s .blocks);
+  sorted = length (s .sorted);
+  ranks = length (s .ranks);
+  terms = length (s .terms);
+  starts = length (s .starts);
+  slots = length (s .slots);
+  weights = length (s .weights);
+  competing = length (s .competing);
+  numbers = length (s .numbers);
+}
+
+-- ---- when a build is refused
+abbrev pub someEmpty : {A : Type 0} → List (List A) → Bool
+someEmpty ls = not (every (λ l. not (eqb (length l) 0)) ls)
+
+-- 4 (scratch), 7, 4 (output)
+abbrev pub roomTests : Input → Lent → List Test
+roomTests g lent =
+    (not (scratchSuffices (scratchNeeds (sizesOf g)) (scratchLengths (lent .scratch))) gives BufferTooShort)
+    ∷ (someEmpty (summaries g) gives EmptySummary)
+    ∷ (not (outputSuffices (built g) (outputLengths (lent .output))) gives BufferTooShort)
+    ∷ []
+
+-- 8 (length, dimension), 6, 14 (listed documents and centroids), 1, 2 (listed documents), 3 or 5, 8 (blocks), and then those
+unfoldable pub tests : Input → Lent → List Test
+tests g lent = inputTests (g .dimension) (g .blocking) (g .documents) (g .ids) (g .centroids) ++ roomTests g lent
+
+unfoldable pub verdictOf : Input → Lent → Verdict
+verdictOf g lent = firstOf (tests g lent)
+
+-- ---- what it leaves
+-- a result at the front of a lent buffer; past it nothing changes
+abbrev pub laid : {A : Type 0} → List A → List A → List A
+laid result buffer = result ++ drop (length result) buffer
+
+abbrev pub zeros : List ℕ → List ℕ
+zeros l = replicate (length l) 0
+
+abbrev pub floatZeros : List Float → List Float
+floatZeros l = replicate (length l) (fin false 0 (pos 0))
+
+unfoldable pub clearedOutput : Outputs → Outputs
+clearedOutput o = record {
+  postings = zeros (o .postings);
+  offsets = zeros (o .offsets);
+  components = zeros (o .components);
+  componentOffsets = zeros (o .componentOffsets);
+  ids = zeros (o .ids);
+  codes = zeros (o .codes);
+  minimums = floatZeros (o .minimums);
+  steps = floatZeros (o .steps);
+}
+
+unfoldable pub clearedScratch : Scratches → Scratches
+clearedScratch s = record {
+  order = zeros (s .order);
+  blocks = zeros (s .blocks);
+  sorted = zeros (s .sorted);
+  ranks = zeros (s .ranks);
+  terms = zeros (s .terms);
+  starts = zeros (s .starts);
+  slots = zeros (s .slots);
+  weights = floatZeros (s .weights);
+  competing = zeros (s .competing);
+  numbers = floatZeros (s .numbers);
+}
+
+-- the result in front of each output buffer
+unfoldable pub filled : Built → Outputs → Outputs
+filled b o = record {
+  postings = laid (b .postings) (o .postings);
+  offsets = laid (b .offsets) (o .offsets);
+  components = laid (b .summaries .components) (o .components);
+  componentOffsets = laid (b .summaries .offsets) (o .componentOffsets);
+  ids = laid (b .summaries .ids) (o .ids);
+  codes = laid (b .summaries .codes) (o .codes);
+  minimums = laid (b .summaries .minimums) (o .minimums);
+  steps = laid (b .summaries .steps) (o .steps);
+}
+
+-- a refused build sets all output to zero, an accepted one leaves it past its result; both zero the scratch
+abbrev pub leftBy : Verdict → Input → Lent → Lent
+leftBy Accepted g lent = record { output = filled (built g) (lent .output); scratch = clearedScratch (lent .scratch) }
+leftBy (Refused r) g lent = record { output = clearedOutput (lent .output); scratch = clearedScratch (lent .scratch) }
+
+unfoldable pub left : Input → Lent → Lent
+left g lent = leftBy (verdictOf g lent) g lent

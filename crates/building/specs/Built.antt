@@ -1,0 +1,64 @@
+-- A posting list, built from an accepted input. Document 01, "Leaves first".
+use Prim.Native.Nat.{ℕ}
+use mathlib.Core.List.{List, [], _∷_, map}
+use lib.ListN.{length}
+use Rattle.configuration.specs.declared.BlockingStrategy.{BlockingStrategy}
+use Rattle.configuration.specs.declared.BlockingStrategy.the-variants as blocking
+use Rattle.configuration.specs.declared.ClusteringAlgorithm.{ClusteringAlgorithm}
+use Rattle.configuration.specs.declared.ClusteringAlgorithm.the-variants as algorithm
+use Rattle.configuration.specs.declared.SummarizationStrategy.{SummarizationStrategy}
+use Rattle.lists.specs.Lists.{joined, offsetsFrom, between}
+use Rattle.documents.specs.Documents.{Term, Documents, packed}
+use Rattle.blocking.specs.Blocking.{fixedOffsets}
+use Rattle.clustering.specs.Clusters.{Assigned, exactly, approximately, clusters}
+use Rattle.summaries.specs.Summaries.{summary}
+use Rattle.quantized_summary.specs.Layout.{Layout}
+use Rattle.layout.specs.Layouts.{layout}
+
+pub record Input : Type 0 where
+  pub dimension : ℕ
+  pub blocking : BlockingStrategy
+  pub summarization : SummarizationStrategy
+  pub documents : Documents
+  pub ids : List ℕ
+  pub centroids : List ℕ
+
+-- the documents in the order of the list, and the block offsets
+pub record Blocked : Type 0 where
+  pub documents : List ℕ
+  pub offsets : List ℕ
+
+abbrev pub blocked : List ℕ → List ℕ → Blocked
+blocked is os = record { documents = is; offsets = os }
+
+-- one block per cluster; an empty list has no offsets
+abbrev pub inClusters : List (List ℕ) → Blocked
+inClusters [] = blocked [] []
+inClusters (b ∷ bs) = blocked (joined (b ∷ bs)) (offsetsFrom 0 (b ∷ bs))
+
+abbrev pub assignedBy : ClusteringAlgorithm → ℕ → Input → List Assigned
+assignedBy algorithm.RandomKmeans minimum g = exactly (g .documents) minimum (g .centroids) (g .ids)
+assignedBy (algorithm.RandomKmeansInvertedIndexApprox cut) minimum g = approximately (g .documents) cut minimum (g .centroids) (g .ids)
+
+abbrev pub blockedBy : BlockingStrategy → Input → Blocked
+blockedBy (blocking.FixedSize size) g = blocked (g .ids) (fixedOffsets (length (g .ids)) size)
+blockedBy (blocking.RandomKmeans fraction minimum algorithm) g = inClusters (clusters (assignedBy algorithm minimum g))
+
+unfoldable pub blocks : Input → Blocked
+blocks g = blockedBy (g .blocking) g
+
+-- the documents of each block
+abbrev pub blockDocuments : Input → List (List ℕ)
+blockDocuments g = between (blocks g .offsets) (blocks g .documents)
+
+-- one summary for each block
+unfoldable pub summaries : Input → List (List Term)
+summaries g = map (summary (g .summarization) (g .documents)) (blockDocuments g)
+
+pub record Built : Type 0 where
+  pub postings : List ℕ
+  pub offsets : List ℕ
+  pub summaries : Layout
+
+unfoldable pub built : Input → Built
+built g = record { postings = map (packed (g .documents)) (blocks g .documents); offsets = blocks g .offsets; summaries = layout (summaries g) }

@@ -1,0 +1,11 @@
+pub mod Built
+pub mod Needs
+pub mod Building
+pub mod Left
+pub mod Shares
+pub mod Blocks
+pub mod Offsets
+pub mod Once
+pub mod Stored
+pub mod Promises
+pub mod Cases

@@ -1,0 +1,78 @@
+-- What a build promises, over the definitions alone: a built list is never refused for 9, and each value read back is near to what was
+-- summarized. Blocks share out the list by Shares. Assumes nothing.
+use Prim.Native.Nat.{ℕ, _≤_, _<_}
+use native.Mathlib.Omega.{arith}
+use mathlib.Core.Path.{_≡_, refl, sym, ap, _∙_, subst}
+use mathlib.Core.Bool.{Bool, true, false, not, _&&_, _||_, true≢false}
+use mathlib.Core.List.{List, [], _∷_, _++_, map}
+use lib.ListN.{length, getD, length-map}
+use lib.Dec.{T, ltb, eqb}
+use lib.Ieee.{Float, nan, le}
+use borrow.Author.Tests.{ltb-false, not-false}
+use Rattle.refusal.specs.declared.Verdict.the-variants.{Accepted}
+use Rattle.refusal.specs.First.{Test, firstOf, Faultless, faultless}
+use Rattle.lists.specs.Lists.{EachOf, every}
+use Rattle.documents.specs.Documents.{Term, packed}
+use Rattle.documents.specs.Checks.{documentsHold, termsHoldBelow}
+use Rattle.documents.specs.Documents.{terms}
+use Rattle.quantizing.specs.Quantizing.{least, greatest, stepFor, codeOf, readBack}
+use Rattle.quantizing.specs.Demand3.{F32s, Drifts, leastStep}
+use Rattle.quantizing.specs.Promises.{value-drift}
+use Rattle.quantized_summary.specs.WellFormed.{wellFormed}
+use Rattle.layout.specs.Layouts.{values, layout}
+use Rattle.layout.specs.Passes.{Storable, built-passes}
+use Rattle.admission.specs.Admission.{centroidsUsed, blockingFaults, inputTests}
+use Rattle.building.specs.Built.{Input, Built, blocks, summaries, built}
+use Rattle.building.specs.Building.{Lent, roomTests, tests, verdictOf}
+use Rattle.building.specs.Offsets.{blocks-hold, as-many, few-blocks}
+use Rattle.building.specs.Stored.{summaries-storable}
+
+faultless-both : (a b : List Test) → Faultless (a ++ b) → Faultless a × Faultless b
+faultless-both [] b f = (tt, f)
+faultless-both (t ∷ a) b f = let r = faultless-both a b (f .1) in ((f .0, r .0), r .1)
+
+or-left : (a b : Bool) → (a || b) ≡ false → a ≡ false
+or-left true b h = h
+or-left false b h = refl
+
+every-front : {A : Type 0} (p : A → Bool) (a b : List A) → every p (a ++ b) ≡ true → every p a ≡ true
+every-front p [] b h = refl
+every-front p (x ∷ a) b h = go (p x) h (every-front p a b)
+  where
+    go : (t : Bool) → (t && every p (a ++ b)) ≡ true → (every p (a ++ b) ≡ true → every p a ≡ true) → (t && every p a) ≡ true
+    go true h f = f h
+    go false h f = h
+
+-- a slice of u32 and one of f32 hold nothing else
+module _ (g : Input) (lent : Lent) (narrow : (k : ℕ) → getD (g .documents .components) k 0 < 4294967296) (fs : F32s (g .documents .values)) (accepted : verdictOf g lent ≡ Accepted) where
+  found : Faultless (inputTests (g .dimension) (g .blocking) (g .documents) (g .ids) (g .centroids)) × Faultless (roomTests g lent)
+  unfolding verdictOf tests
+  found = faultless-both (inputTests (g .dimension) (g .blocking) (g .documents) (g .ids) (g .centroids)) (roomTests g lent) (faultless (tests g lent) accepted)
+
+  short : length (g .ids) ≤ 16777216
+  unfolding inputTests
+  short = ltb-false 16777216 (length (g .ids)) (or-left _ _ (found .0 .0))
+
+  hold : documentsHold (g .dimension) (g .documents) (g .ids) ≡ true
+  unfolding inputTests documentsHold
+  hold = every-front (λ i. termsHoldBelow (g .dimension) (terms (g .documents) i)) (g .ids) (centroidsUsed (g .blocking) (g .centroids)) (not-false _ (found .0 .1 .1 .0))
+
+  few : length (summaries g) ≤ 65535
+  unfolding inputTests
+  few = few-blocks g (found .0 .1 .1 .1 .1 .1)
+
+  -- each summary can be stored
+  pub storable : EachOf Storable (summaries g)
+  storable = summaries-storable g narrow fs hold (not-false _ (found .1 .1 .0))
+
+  -- refusal 9 finds nothing in a built list
+  pub built-well-formed : wellFormed (length (built g .postings)) (built g .offsets) (built g .summaries) ≡ true
+  unfolding built
+  built-well-formed =
+      subst (λ n. wellFormed n (blocks g .offsets) (layout (summaries g)) ≡ true) (sym (length-map (blocks g .documents) (packed (g .documents))))
+      (built-passes (summaries g) storable (length (blocks g .documents)) (blocks g .offsets) few (let e = as-many g in let s = short in omega arith) (blocks-hold g))
+
+-- demand 3 holds of each block's summary as built: the value read back from the stored minimum and step and the entry's code
+pub stored-drift : (s : List Term) → Storable s → T (le leastStep (stepFor (values s))) → (k : ℕ) → k < length (values s)
+    → let v = getD (values s) k nan in Drifts (least (values s)) (greatest (values s)) (stepFor (values s)) v (readBack (least (values s)) (stepFor (values s)) (codeOf (least (values s)) (stepFor (values s)) v))
+stored-drift s h st k l = value-drift (values s) (h .floats) (h .list) st k l

@@ -1,0 +1,189 @@
+-- What the summaries of an accepted list hold: rising components, and values that are f32 in bound, one at least. Assumes nothing.
+use Prim.Native.Nat.{ℕ, zero, suc, _+_, _-_, _≤_, _<_}
+use native.Mathlib.Omega.{arith}
+use mathlib.Core.Path.{_≡_, refl, sym, ap, _∙_, subst}
+use mathlib.Core.Bool.{Bool, true, false, not, _&&_, cond, true≢false}
+use mathlib.Core.List.{List, [], _∷_, _++_, map, foldl, List·Permᴰ, Permᴰ·symm}
+use lib.ListN.{length, getD, take, drop}
+use lib.Dec.{T, ltb, eqb}
+use lib.Ieee.{Float, nan, binary32, fits, lt}
+use borrow.Author.Tests.{ne-eqb, eqb-false}
+use Rattle.configuration.specs.declared.SummarizationStrategy.{SummarizationStrategy}
+use Rattle.configuration.specs.declared.BlockingStrategy.{BlockingStrategy}
+use Rattle.configuration.specs.declared.BlockingStrategy.the-variants.{FixedSize, RandomKmeans}
+use Rattle.lists.specs.Lists.{EachOf, every, those, among, joined, offsetsFrom, between, part, keys, strictlyRise, sortedBy}
+use Rattle.lists.specs.Sorted.{each-sortedBy}
+use Rattle.float32.specs.Bound.{inBound}
+use Rattle.documents.specs.Documents.{Term, term, Documents, terms, valuesAt, greaterFirst, falling}
+use Rattle.documents.specs.Checks.{termsHold, termsHoldBelow, documentsHold}
+use Rattle.documents.specs.TermKeys.{Held}
+use Rattle.block_maximum.specs.Maximum.{blockTerms, maximum, maxima, blockMaximum}
+use Rattle.summaries.specs.Summaries.{kept, lower, summary}
+use Rattle.summaries.specs.Whole.{block-held}
+use Rattle.quantizing.specs.Demand3.{F32s}
+use Rattle.quantizing.specs.Accepted.{Quantizable}
+use Rattle.layout.specs.Layouts.{values}
+use Rattle.layout.specs.Passes.{Storable}
+use Rattle.clustering.specs.Clusters.{clusters}
+use Rattle.clustering.specs.Ranks.{Among, rising-among}
+use Rattle.clustering.specs.Members.{each-among}
+use Rattle.building.specs.Once.{kept-first, each-take, summary-rises}
+use Rattle.building.specs.Built.{Input, inClusters, assignedBy, blockedBy, blocks, blockDocuments, summaries}
+use Rattle.building.specs.Shares.{clusters-share, assigned-documents}
+
+-- ---- what holds of each
+module _ {A : Type 0} (P : A → Type 0) where
+  each-drop : (n : ℕ) (l : List A) → EachOf P l → EachOf P (drop n l)
+  each-drop zero l e = e
+  each-drop (suc n) [] e = tt
+  each-drop (suc n) (x ∷ l) e = each-drop n l (e .1)
+
+  each-append : (l r : List A) → EachOf P l → EachOf P r → EachOf P (l ++ r)
+  each-append [] r a b = b
+  each-append (x ∷ l) r a b = (a .0, each-append l r (a .1) b)
+
+  each-between : (os : List ℕ) (xs : List A) → EachOf P xs → EachOf (EachOf P) (between os xs)
+  each-between [] xs e = tt
+  each-between (a ∷ []) xs e = tt
+  each-between (a ∷ b ∷ os) xs e = (each-take P (b - a) (drop a xs) (each-drop a xs e), each-between (b ∷ os) xs e)
+
+  each-permuted : {l r : List A} → List·Permᴰ l r → EachOf P l → EachOf P r
+  each-permuted List·Permᴰ.List·Permᴰ·nil h = h
+  each-permuted (List·Permᴰ.List·Permᴰ·cons e d) h = (subst P e (h .0), each-permuted d (h .1))
+  each-permuted (List·Permᴰ.List·Permᴰ·swap e f) h = (subst P f (h .1 .0), (subst P e (h .0), h .1 .1))
+  each-permuted (List·Permᴰ.List·Permᴰ·trans d e) h = each-permuted e (each-permuted d h)
+
+  each-those : (p : A → Bool) (l : List A) → EachOf P l → EachOf P (those p l)
+  each-those p [] e = tt
+  each-those p (x ∷ l) e = go (p x) (each-those p l (e .1))
+    where
+      go : (b : Bool) → EachOf P (those p l) → EachOf P (cond b (x ∷ those p l) (those p l))
+      go true i = (e .0, i)
+      go false i = i
+
+pub every-each : {A : Type 0} (p : A → Bool) (l : List A) → every p l ≡ true → EachOf (λ x. p x ≡ true) l
+every-each p [] h = tt
+every-each p (x ∷ l) h = go (p x) refl h (every-each p l)
+  where
+    go : (b : Bool) → p x ≡ b → (b && every p l) ≡ true → (every p l ≡ true → EachOf (λ x. p x ≡ true) l) → (p x ≡ true) × EachOf (λ x. p x ≡ true) l
+    go true e h f = (e, f h)
+    go false e h f = absurd (true≢false (sym h))
+
+-- ---- each document of a block is listed
+in-clusters-each : (P : ℕ → Type 0) (bs : List (List ℕ)) → EachOf P (joined bs) → EachOf P ((inClusters bs) .documents)
+in-clusters-each P [] e = tt
+in-clusters-each P (b ∷ bs) e = e
+
+pub blocks-each : (P : ℕ → Type 0) (g : Input) → EachOf P (g .ids) → EachOf (EachOf P) (blockDocuments g)
+unfolding blocks
+blocks-each P g e = each-between P (blockedBy (g .blocking) g .offsets) (blockedBy (g .blocking) g .documents) (go (g .blocking))
+  where
+    go : (k : BlockingStrategy) → EachOf P (blockedBy k g .documents)
+    go (FixedSize size) = e
+    go (RandomKmeans fraction minimum algorithm) =
+        let pairs = assignedBy algorithm minimum g in
+        in-clusters-each P (clusters pairs) (each-permuted P (Permᴰ·symm (clusters-share pairs)) (subst (EachOf P) (sym (assigned-documents algorithm minimum g)) e))
+
+-- ---- values that are f32 in bound
+pub record Good (v : Float) : Type 0 where
+  pub fit : T (fits binary32 v)
+  pub bound : inBound v ≡ true
+
+abbrev GoodTerm : Term → Type 0
+GoodTerm t = Good (t .value)
+
+greatest-good : (v : Float) (vs : List Float) → Good v → EachOf Good vs → Good (maximum (v ∷ vs))
+greatest-good v [] p e = p
+greatest-good v (x ∷ vs) p e = go (lt v x) (λ w q. greatest-good w vs q (e .1))
+  where
+    go : (b : Bool) → ((w : Float) → Good w → Good (maximum (w ∷ vs))) → Good (foldl (λ m x. cond (lt m x) x m) (cond b x v) vs)
+    go true i = i x (e .0)
+    go false i = i v p
+
+values-good : (c : ℕ) (ts : List Term) → EachOf GoodTerm ts → EachOf Good (valuesAt c ts)
+values-good c ts e = go (those (λ t. eqb (t .component) c) ts) (each-those GoodTerm (λ t. eqb (t .component) c) ts e)
+  where
+    go : (l : List Term) → EachOf GoodTerm l → EachOf Good (map (λ t. t .value) l)
+    go [] e = tt
+    go (t ∷ l) e = (e .0, go l (e .1))
+
+good-at : (c : ℕ) (ts : List Term) → EachOf GoodTerm ts → among c (map (λ t. t .component) ts) ≡ true → Good (maximum (valuesAt c ts))
+good-at c [] e a = absurd (true≢false (sym a))
+good-at c (t ∷ ts) e a = go (eqb (t .component) c) refl (good-at c ts (e .1))
+  where
+    go : (b : Bool) → eqb (t .component) c ≡ b → (among c (map (λ t. t .component) ts) ≡ true → Good (maximum (valuesAt c ts)))
+        → Good (maximum (map (λ t. t .value) (cond b (t ∷ those (λ t. eqb (t .component) c) ts) (those (λ t. eqb (t .component) c) ts))))
+    go true h i = greatest-good (t .value) (valuesAt c ts) (e .0) (values-good c ts (e .1))
+    go false h i = i (rw (ne-eqb c (t .component) (λ z. eqb-false (t .component) c h (sym z))) at a)
+
+maxima-good : (ts : List Term) → EachOf GoodTerm ts → EachOf GoodTerm (maxima ts)
+unfolding maxima
+maxima-good ts e = go (keys (λ t. t .component) ts) (rising-among (map (λ t. t .component) ts) (map (λ t. t .component) ts) (each-among (map (λ t. t .component) ts)))
+  where
+    go : (ks : List ℕ) → EachOf (Among (map (λ t. t .component) ts)) ks → EachOf GoodTerm (map (λ c. term c (maximum (valuesAt c ts))) ks)
+    go [] a = tt
+    go (k ∷ ks) a = (good-at k ts e (a .0), go ks (a .1))
+
+summary-good : (s : SummarizationStrategy) (d : Documents) (block : List ℕ) → EachOf GoodTerm (blockTerms d block) → EachOf GoodTerm (summary s d block)
+unfolding summary falling
+summary-good s d block e =
+    let ts = blockMaximum d block in
+    let k = kept-first s ts in
+    each-sortedBy lower GoodTerm (kept s ts) (subst (EachOf GoodTerm) (sym (k .1)) (each-take GoodTerm (k .0) (falling ts) (each-sortedBy greaterFirst GoodTerm ts (maxima-good (blockTerms d block) e))))
+
+and-right : (a b : Bool) → (a && b) ≡ true → b ≡ true
+and-right true b h = h
+and-right false b h = absurd (true≢false (sym h))
+
+and-left : (a b : Bool) → (a && b) ≡ true → a ≡ true
+and-left true b h = refl
+and-left false b h = h
+
+terms-bound : (n : ℕ) (ts : List Term) → termsHoldBelow n ts ≡ true → EachOf (λ t. inBound (t .value) ≡ true) ts
+unfolding termsHoldBelow termsHold
+terms-bound n ts h = every-each (λ t. inBound (t .value)) ts (and-right (strictlyRise (map (λ t. t .component) ts)) (every (λ t. inBound (t .value)) ts) (and-left (strictlyRise (map (λ t. t .component) ts) && every (λ t. inBound (t .value)) ts) (every (λ t. ltb (t .component) n) ts) h))
+
+block-bound : (n : ℕ) (d : Documents) (block : List ℕ) → EachOf (λ i. termsHoldBelow n (terms d i) ≡ true) block → EachOf (λ t. inBound (t .value) ≡ true) (blockTerms d block)
+block-bound n d [] e = tt
+block-bound n d (i ∷ block) e = each-append (λ t. inBound (t .value) ≡ true) (terms d i) (blockTerms d block) (terms-bound n (terms d i) (e .0)) (block-bound n d block (e .1))
+
+both-good : (ts : List Term) → EachOf Held ts → EachOf (λ t. inBound (t .value) ≡ true) ts → EachOf GoodTerm ts
+both-good [] a b = tt
+both-good (t ∷ ts) a b = (record { fit = a .0 .fit; bound = b .0 }, both-good ts (a .1) (b .1))
+
+-- ---- such a summary can be stored
+good-at-place : (s : List Term) → EachOf GoodTerm s → F32s (values s)
+unfolding fits
+good-at-place [] e k = tt
+good-at-place (t ∷ s) e zero = e .0 .fit
+good-at-place (t ∷ s) e (suc k) = good-at-place s (e .1) k
+
+good-bound : (s : List Term) → EachOf GoodTerm s → every inBound (values s) ≡ true
+good-bound [] e = refl
+good-bound (t ∷ s) e = let i = good-bound s (e .1) in let b = e .0 .bound in rw (b, i)
+
+filled-some : (s : List Term) → not (eqb (length s) 0) ≡ true → 0 < length (values s)
+filled-some [] h = absurd (true≢false (sym h))
+filled-some (t ∷ s) h = omega arith
+
+module _ (g : Input) (narrow : (k : ℕ) → getD (g .documents .components) k 0 < 4294967296) (fs : F32s (g .documents .values)) where
+  summary-storable : (block : List ℕ) → EachOf (λ i. termsHoldBelow (g .dimension) (terms (g .documents) i) ≡ true) block
+      → not (eqb (length (summary (g .summarization) (g .documents) block)) 0) ≡ true → Storable (summary (g .summarization) (g .documents) block)
+  summary-storable block e f =
+      let d = g .documents in
+      let w = summary-good (g .summarization) d block (both-good (blockTerms d block) (block-held d block narrow fs) (block-bound (g .dimension) d block e)) in
+      record {
+        rises = summary-rises (g .summarization) d block;
+        floats = good-at-place (summary (g .summarization) d block) w;
+        list = record { some = filled-some (summary (g .summarization) d block) f; in-bound = good-bound (summary (g .summarization) d block) w };
+      }
+
+  -- each summary of a list whose listed documents hold and whose summaries are not empty
+  pub summaries-storable : documentsHold (g .dimension) (g .documents) (g .ids) ≡ true → every (λ s. not (eqb (length s) 0)) (summaries g) ≡ true → EachOf Storable (summaries g)
+  unfolding summaries documentsHold
+  summaries-storable h f = go (blockDocuments g) (blocks-each (λ i. termsHoldBelow (g .dimension) (terms (g .documents) i) ≡ true) g (every-each (λ i. termsHoldBelow (g .dimension) (terms (g .documents) i)) (g .ids) h)) (every-each (λ s. not (eqb (length s) 0)) (map (summary (g .summarization) (g .documents)) (blockDocuments g)) f)
+    where
+      go : (bs : List (List ℕ)) → EachOf (EachOf (λ i. termsHoldBelow (g .dimension) (terms (g .documents) i) ≡ true)) bs → EachOf (λ s. not (eqb (length s) 0) ≡ true) (map (summary (g .summarization) (g .documents)) bs)
+          → EachOf Storable (map (summary (g .summarization) (g .documents)) bs)
+      go [] e f = tt
+      go (b ∷ bs) e f = (summary-storable b (e .0) (f .0), go bs (e .1) (f .1))

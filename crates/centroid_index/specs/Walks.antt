@@ -1,0 +1,43 @@
+-- Terms in two slices, walked from a place on. Assumes nothing.
+use Prim.Native.Nat.{ℕ, suc, _+_, _-_, _≤_, _<_, min}
+use native.Mathlib.Omega.{arith}
+use mathlib.Core.Path.{_≡_, refl, sym, ap, _∙_}
+use mathlib.Core.List.{List, [], _∷_, zipWith}
+use lib.ListN.{length, getD, drop}
+use lib.Ieee.{Float}
+use Rattle.lists.specs.Lists.{part}
+use Rattle.documents.specs.declared.TermPlaces.{TermPlaces}
+use Rattle.documents.specs.Documents.{Term, term, paired, Documents, terms}
+use Rattle.documents.specs.Answers.{placesOf}
+use Rattle.documents.specs.Places.{terms-at, places-order, places-within}
+use Rattle.counting.specs.Loops.{zip-step, zip-left, zip-right}
+
+pub walk-step : (cs : List ℕ) (vs : List Float) (i : ℕ) (d : Float) → i < length cs → i < length vs → paired (drop i cs) (drop i vs) ≡ term (getD cs i 0) (getD vs i d) ∷ paired (drop (i + 1) cs) (drop (i + 1) vs)
+unfolding paired
+walk-step cs vs i d h k = zip-step term cs vs i 0 d h k
+
+pub walk-left : (cs : List ℕ) (vs : List Float) (i : ℕ) → length cs ≤ i → paired (drop i cs) (drop i vs) ≡ []
+unfolding paired
+walk-left cs vs i h = zip-left term cs vs i h
+
+pub walk-right : (cs : List ℕ) (vs : List Float) (i : ℕ) → length vs ≤ i → paired (drop i cs) (drop i vs) ≡ []
+unfolding paired
+walk-right cs vs i h = zip-right term cs vs i h
+
+-- ---- places that lie inside both slices and hold a document's terms
+pub record Cut (d : Documents) (i : ℕ) (p : TermPlaces) : Type 0 where
+  pub is : p ≡ placesOf (d .offsets) (min (length (d .components)) (length (d .values))) i
+  pub ordered : p .from ≤ p .to
+  pub in-components : p .to ≤ length (d .components)
+  pub in-values : p .to ≤ length (d .values)
+  pub holds : terms d i ≡ paired (part (p .from) (p .to - p .from) (d .components)) (part (p .from) (p .to - p .from) (d .values))
+
+pub cut : (d : Documents) (i n : ℕ) (p : TermPlaces) → n ≡ min (length (d .components)) (length (d .values)) → p ≡ placesOf (d .offsets) n i → Cut d i p
+cut d i n p e h =
+    rw h (record {
+      is = ap (λ m. placesOf (d .offsets) m i) e;
+      ordered = places-order (d .offsets) n i;
+      in-components = let w = places-within (d .offsets) n i in omega arith;
+      in-values = let w = places-within (d .offsets) n i in omega arith;
+      holds = terms-at d i n e;
+    })

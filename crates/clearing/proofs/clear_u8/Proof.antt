@@ -1,0 +1,51 @@
+-- The loop's invariant: so many places from the front hold 0, and those left are as they were. Assumes nothing.
+use mathlib.Core.Path.{_≡_, refl, _∙_}
+use native.Mathlib.Omega.{arith}
+use Prim.Native.Nat.{_≤_, _-_}
+use mathlib.Core.List.{_++_}
+use lib.ListN.{length, drop, replicate, length-set}
+use borrow.Author.Needs.{needs}
+use Rattle.clearing.proofs.Laws.{fill-step, fill-end}
+use Rattle.clearing.proofs.clear_u8.Statement.{statement}
+use Rattle.clearing.proofs.clear_u8.Tie as tie
+
+abbrev Inv-loop : tie.InvT-loop
+Inv-loop codes₀ i₀ codes i = (i ≤ length codes₀) × (length codes ≡ length codes₀) × (codes ≡ replicate i 0 ++ drop i codes₀)
+
+abbrev μ-loop : tie.MeasureT-loop
+μ-loop codes₀ i₀ codes i = length codes₀ - i
+
+loop-holds : tie.Need-loop-holds Inv-loop μ-loop
+loop-holds c = (omega arith, refl, refl)
+
+slice-write-codes : tie.Need-slice-write-codes Inv-loop μ-loop
+slice-write-codes c = search needs
+
+add-i : tie.Need-add-i Inv-loop μ-loop
+add-i c = search needs
+
+loop-less : tie.Need-loop-less Inv-loop μ-loop
+loop-less c = search needs
+
+loop-again : tie.Need-loop-again Inv-loop μ-loop
+loop-again c = let l = c .before .loop in let a = c .before .before .args in (omega arith, length-set (l .codes) (l .i) _ ∙ l .inv .1, fill-step 0 (l .i) (a .codes .now) (l .codes) (l .inv .2) (omega arith))
+
+same-length : tie.Need-same-length Inv-loop μ-loop
+same-length c = search needs
+
+returns : tie.Need-returns Inv-loop μ-loop
+returns c = let l = c .before .loop in let a = c .before .before .args in fill-end 0 (l .i) (a .codes .now) (l .codes) (l .inv .2) (omega arith)
+
+pub clear-u8-spec : {M : Type 1} → statement M
+clear-u8-spec =
+    tie.close
+    (tie.spec
+    Inv-loop
+    μ-loop
+    loop-holds
+    slice-write-codes
+    add-i
+    loop-less
+    loop-again
+    same-length
+    returns)

@@ -1,0 +1,13 @@
+pub mod Clusters
+pub mod Ordered
+pub mod Ranks
+pub mod Canonical
+pub mod Members
+pub mod Search
+pub mod Passes
+pub mod Exact
+pub mod Fits
+pub mod Answers
+pub mod Ready
+pub mod Promises
+pub mod Cases

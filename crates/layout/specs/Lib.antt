@@ -1,0 +1,10 @@
+pub mod Layouts
+pub mod Passes
+pub mod Placing
+pub mod Counted
+pub mod Gathered
+pub mod Keys
+pub mod Guards
+pub mod Laying
+pub mod Written
+pub mod AnyOrder

@@ -1,0 +1,26 @@
+-- `merino_push` shows what `kept_list::push` leaves. Assumes nothing.
+use borrow.Author.Needs.{needs}
+use Rattle.merino.proofs.Laws.{push-crosses}
+use Rattle.merino.proofs.merino_push.Statement.{statement}
+use Rattle.merino.proofs.merino_push.Tie as tie
+
+new-requires : tie.Need-new-requires
+new-requires c κs = search needs
+
+push-requires : tie.Need-push-requires
+push-requires c κs = search needs
+
+number-of-requires : tie.Need-number-of-requires
+number-of-requires c κs = search needs
+
+same-length : tie.Need-same-length
+same-length c = search needs
+
+same-length-2 : tie.Need-same-length-2
+same-length-2 c = search needs
+
+returns : tie.Need-returns
+returns c = push-crosses _ _ _ _ _ _ _ (c .number-of .ensures) (c .before .before .before .before .before .push .ensures) (c .before .before .before .before .before .before .new .ensures)
+
+pub merino-push-spec : {M : Type 1} → statement M
+merino-push-spec = tie.close (tie.spec new-requires push-requires number-of-requires same-length same-length-2 returns)

@@ -1,0 +1,56 @@
+-- `page::seek`: the place and what is left below from there make the place sought. Assumes nothing.
+use mathlib.Core.Path.{_≡_, refl, sym, ap, _∙_}
+use Prim.Native.Nat.{ℕ, _≤_, _<_, _-_, _+_}
+use lib.ListN.{length, getD}
+use Rattle.page.proofs.Laws.{soughtFrom, seek-stop, seek-step, seek-end}
+use Rattle.page.specs.Through.{sought}
+use borrow.Author.Needs.{needs}
+use native.Mathlib.Omega.{arith}
+use Rattle.page.proofs.seek.Statement.{statement}
+use Rattle.page.proofs.seek.Tie as tie
+
+abbrev Inv-loop : tie.InvT-loop
+Inv-loop asked j a k₀ k = soughtFrom asked a k ≡ sought asked j a
+
+abbrev μ-loop : tie.MeasureT-loop
+μ-loop asked j a k₀ k = length asked - k
+
+loop-holds : tie.Need-loop-holds Inv-loop μ-loop
+unfolding sought
+loop-holds c = refl
+
+mul-if1 : tie.Need-mul-if1 Inv-loop μ-loop
+mul-if1 c = search needs
+
+shared-slice-read-if1 : tie.Need-shared-slice-read-if1 Inv-loop μ-loop
+shared-slice-read-if1 c = search needs
+
+returns : tie.Need-returns Inv-loop μ-loop
+returns c = let l = c .before .before .before .loop in let a = c .before .before .before .before .args in seek-stop (a .asked .now) (a .a) (l .k) (omega arith) (c .if1 .taken) ∙ l .inv
+
+add-k : tie.Need-add-k Inv-loop μ-loop
+add-k c = search needs
+
+loop-less : tie.Need-loop-less Inv-loop μ-loop
+loop-less c = search needs
+
+loop-again : tie.Need-loop-again Inv-loop μ-loop
+loop-again c = let l = c .before .before .before .loop in let a = c .before .before .before .before .args in seek-step (a .asked .now) (a .a) (l .k) (omega arith) (omega arith) ∙ l .inv
+
+returns-2 : tie.Need-returns-2 Inv-loop μ-loop
+returns-2 c = let l = c .before .loop in let a = c .before .before .args in seek-end (a .asked .now) (a .a) (l .k) (omega arith) ∙ l .inv
+
+pub seek-spec : {M : Type 1} → statement M
+seek-spec =
+    tie.close
+    (tie.spec
+    Inv-loop
+    μ-loop
+    loop-holds
+    mul-if1
+    shared-slice-read-if1
+    returns
+    add-k
+    loop-less
+    loop-again
+    returns-2)

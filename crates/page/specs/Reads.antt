@@ -1,0 +1,48 @@
+-- Through the sieve of a query whose terms hold, a page reads as it does against that query. Assumes nothing.
+use mathlib.Core.Path.{_≡_, refl, sym, ap, _∙_}
+use mathlib.Core.List.{List, map}
+use mathlib.Core.Bool.{Bool, true, false, _&&_, cond}
+use Prim.Native.Nat.{ℕ}
+use native.Mathlib.Omega.{arith}
+use borrow.Author.Tests.{eqb-true}
+use lib.ListN.{length}
+use lib.Dec.{eqb}
+use lib.Ieee.{Float, binary32, ofBits}
+use Rattle.lists.specs.Lists.{every, strictlyRise}
+use Rattle.float32.specs.Bound.{inBound}
+use Rattle.documents.specs.Documents.{Term, paired, dot}
+use Rattle.documents.specs.Checks.{termsHold, slicesHold}
+use Rattle.documents.specs.Laws.{both, paired-components}
+use Rattle.page.specs.declared.Reading.{Reading}
+use Rattle.page.specs.declared.Reading.the-variants.{Breaks, Score}
+use Rattle.page.specs.Reading.{reading}
+use Rattle.page.specs.Through.{sieveOf, sumOf, through, readThrough}
+use Rattle.page.specs.Score.{Above, above-of, walked-is-dot}
+use Rattle.page.specs.Walk.{sieve-passes, through-right}
+
+-- slices that hold are equally long, and their terms rise
+pub holds-even : (cs : List ℕ) (vs : List Float) → slicesHold cs vs ≡ true → length cs ≡ length vs
+unfolding slicesHold
+holds-even cs vs h = eqb-true (length cs) (length vs) (both (eqb (length cs) (length vs)) (termsHold (paired cs vs)) h .0)
+
+holds-rise : (cs : List ℕ) (vs : List Float) → slicesHold cs vs ≡ true → strictlyRise (map (λ t. t .component) (paired cs vs)) ≡ true
+unfolding slicesHold termsHold
+holds-rise cs vs h =
+    let t = both (eqb (length cs) (length vs)) (termsHold (paired cs vs)) h .1 in
+    both (strictlyRise (map (λ t. t .component) (paired cs vs))) (every (λ t. inBound (t .value)) (paired cs vs)) t .0
+
+pub read-is : (qs : List ℕ) (ws : List Float) (cs : List ℕ) (vs : List Float) → slicesHold qs ws ≡ true → readThrough (sieveOf qs) qs ws cs vs ≡ reading qs ws cs vs
+unfolding readThrough reading ofBits
+read-is qs ws cs vs h = at (slicesHold cs vs) refl
+  where
+    even : length qs ≡ length ws
+    even = holds-even qs ws h
+
+    rise : strictlyRise qs ≡ true
+    rise = rw (paired-components qs ws even) at (holds-rise qs ws h)
+
+    at : (b : Bool) → slicesHold cs vs ≡ b → cond b (Score ((through (sieveOf qs) qs ws cs vs (sumOf (ofBits binary32 0) 0)) .total)) Breaks ≡ cond b (Score (dot (paired qs ws) (paired cs vs))) Breaks
+    at true e =
+        let a = above-of (paired cs vs) (holds-rise cs vs e) in
+        ap Score (through-right (sieveOf qs) qs ws (sieve-passes qs) rise even 0 cs vs (sumOf (ofBits binary32 0) 0) a (λ k g. omega arith) ∙ walked-is-dot (paired qs ws) (paired cs vs) (above-of (paired qs ws) (holds-rise qs ws h)) a)
+    at false e = refl

@@ -1,0 +1,211 @@
+// One page read against a query: its terms are checked and its score is taken, in two short passes over them.
+ghost use mathlib.Core.Path.{_≡_};
+ghost use Prim.Native.Nat.{_≤_, _<_, _+_, _%_};
+ghost use lib.ListN.{length, getD, drop};
+ghost use lib.Ieee.{ofBits, binary32};
+ghost use Rattle.page.specs.Through.{sieveOf, sought, looked, stepped, through, sumOf, readThrough};
+
+// What reading a page says: its terms break their rules (14), or its score.
+pub enum Reading {
+    Breaks,
+    Score(f32),
+}
+
+// A sum on its way, and the place in the query from which the next component is looked up.
+struct Sum {
+    total: f32,
+    at: usize,
+}
+
+// The sieve of a query: 1 at the remainder by 4,096 of each of its components, else 0. It is made once for a search.
+pub fn sieve_of(asked: &[u32]) -> [u8; 4096]
+    ensures { λ r. ⌜ r ≡ sieveOf (now (asked .entry)) ⌝ }
+{
+    let mut sieve = [0u8; 4096];
+    let mut i = 0usize;
+    while i < asked.len() {
+        let c = asked[i];
+        let r = (c % 4096) as usize;
+        sieve[r] = 1;
+        i += 1;
+    }
+    sieve
+}
+
+// A byte as a number to be summed.
+fn wide(b: u8) -> u32
+    ensures { λ r. ⌜ (r ≡ b) × (r < 256) ⌝ }
+{
+    b as u32
+}
+
+// The sieve's byte for a component: 0 says that the query has no such component.
+fn mark(sieve: &[u8; 4096], c: u32) -> u32
+    ensures { λ r. ⌜ (r ≡ getD (now (sieve .entry)) (c % 4096) 0) × (r < 256) ⌝ }
+{
+    let place = (c % 4096) as usize;
+    wide(sieve[place])
+}
+
+// The first place from j on whose component is not below a.
+fn seek(asked: &[u32], j: usize, a: u32) -> usize
+    ensures { λ r. ⌜ r ≡ sought (now (asked .entry)) j a ⌝ }
+{
+    let mut k = j;
+    while k < asked.len() {
+        if a <= asked[k] {
+            return k;
+        }
+        k += 1;
+    }
+    k
+}
+
+// The sum with the product of one term, if the query has its component.
+fn look(a: u32, v: f32, s: Sum, asked: &[u32], weights: &[f32]) -> Sum
+    ensures { λ r. ⌜ r ≡ looked (now (asked .entry)) (now (weights .entry)) a v s ⌝ }
+{
+    let j = s.at;
+    let total = s.total;
+    let at = seek(asked, j, a);
+    if asked.len() <= at {
+        return Sum {
+            total: total,
+            at: at,
+        };
+    }
+    if weights.len() <= at {
+        return Sum {
+            total: total,
+            at: at,
+        };
+    }
+    if asked[at] == a {
+        return Sum {
+            total: total + v * weights[at],
+            at: at,
+        };
+    }
+    Sum {
+        total: total,
+        at: at,
+    }
+}
+
+// One term of a page.
+fn term(
+    sieve: &[u8; 4096],
+    components: &[u32],
+    values: &[f32],
+    i: usize,
+    s: Sum,
+    asked: &[u32],
+    weights: &[f32],
+) -> Sum
+    requires { ⌜ i < length (now components) ⌝ }
+    requires { ⌜ length (now components) ≡ length (now values) ⌝ }
+    ensures { λ r. ⌜ through (now (sieve .entry)) (now (asked .entry)) (now (weights .entry)) (drop i (now (components .entry))) (drop i (now (values .entry))) s
+        ≡ through (now (sieve .entry)) (now (asked .entry)) (now (weights .entry)) (drop (i + 1) (now (components .entry))) (drop (i + 1) (now (values .entry))) r ⌝ }
+{
+    let c = components[i];
+    if mark(sieve, c) == 0 {
+        return s;
+    }
+    let v = values[i];
+    look(c, v, s, asked, weights)
+}
+
+// The terms from i to below e.
+fn terms(
+    sieve: &[u8; 4096],
+    components: &[u32],
+    values: &[f32],
+    i: usize,
+    e: usize,
+    s: Sum,
+    asked: &[u32],
+    weights: &[f32],
+) -> Sum
+    requires { ⌜ i ≤ e ⌝ }
+    requires { ⌜ e ≤ length (now components) ⌝ }
+    requires { ⌜ length (now components) ≡ length (now values) ⌝ }
+    ensures { λ r. ⌜ through (now (sieve .entry)) (now (asked .entry)) (now (weights .entry)) (drop i (now (components .entry))) (drop i (now (values .entry))) s
+        ≡ through (now (sieve .entry)) (now (asked .entry)) (now (weights .entry)) (drop e (now (components .entry))) (drop e (now (values .entry))) r ⌝ }
+{
+    let mut k = i;
+    let mut t = s;
+    while k < e {
+        t = term(sieve, components, values, k, t, asked, weights);
+        k += 1;
+    }
+    t
+}
+
+// Four terms: nearly always the sieve passes none of them, and nothing is to be done.
+fn four(
+    sieve: &[u8; 4096],
+    components: &[u32],
+    values: &[f32],
+    i: usize,
+    s: Sum,
+    asked: &[u32],
+    weights: &[f32],
+) -> Sum
+    requires { ⌜ i + 4 ≤ length (now components) ⌝ }
+    requires { ⌜ length (now components) ≡ length (now values) ⌝ }
+    ensures { λ r. ⌜ through (now (sieve .entry)) (now (asked .entry)) (now (weights .entry)) (drop i (now (components .entry))) (drop i (now (values .entry))) s
+        ≡ through (now (sieve .entry)) (now (asked .entry)) (now (weights .entry)) (drop (i + 4) (now (components .entry))) (drop (i + 4) (now (values .entry))) r ⌝ }
+{
+    let i1 = i + 1;
+    let i2 = i + 2;
+    let i3 = i + 3;
+    let e = i + 4;
+    let m0 = mark(sieve, components[i]);
+    let m1 = mark(sieve, components[i1]);
+    let m2 = mark(sieve, components[i2]);
+    let m3 = mark(sieve, components[i3]);
+    if m0 + m1 + m2 + m3 == 0 {
+        return s;
+    }
+    terms(sieve, components, values, i, e, s, asked, weights)
+}
+
+// The sum over a page's terms, which are as many components as values.
+fn walk(
+    sieve: &[u8; 4096],
+    components: &[u32],
+    values: &[f32],
+    asked: &[u32],
+    weights: &[f32],
+) -> f32
+    requires { ⌜ length (now components) ≡ length (now values) ⌝ }
+    ensures { λ r. ⌜ r ≡ (through (now (sieve .entry)) (now (asked .entry)) (now (weights .entry)) (now (components .entry)) (now (values .entry)) (sumOf (ofBits binary32 0) 0)) .total ⌝ }
+{
+    let n = components.len();
+    let mut s = Sum { total: 0.0, at: 0 };
+    let mut i = 0usize;
+    while 4 <= n - i {
+        s = four(sieve, components, values, i, s, asked, weights);
+        i += 4;
+    }
+    s = terms(sieve, components, values, i, n, s, asked, weights);
+    s.total
+}
+
+// A page's reading through a sieve. With the sieve of a query whose terms hold, it is the reading against that query (specs/Reads).
+// It takes time in proportion to the page's terms, and nearly nothing for a term that the query lacks.
+pub fn read(
+    sieve: &[u8; 4096],
+    components: &[u32],
+    values: &[f32],
+    asked: &[u32],
+    weights: &[f32],
+) -> Reading
+    ensures { λ r. ⌜ r ≡ readThrough (now (sieve .entry)) (now (asked .entry)) (now (weights .entry)) (now (components .entry)) (now (values .entry)) ⌝ }
+{
+    if documents::slices_hold(components, values) {
+        let score = walk(sieve, components, values, asked, weights);
+        return Reading::Score(score);
+    }
+    Reading::Breaks
+}

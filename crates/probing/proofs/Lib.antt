@@ -1,0 +1,5 @@
+pub mod Admitted
+pub mod Laid
+pub mod Probes
+pub mod Steps
+pub mod Turns

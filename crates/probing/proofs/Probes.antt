@@ -1,0 +1,83 @@
+-- Probing as a whole: refused as its tests say, or the sweep, laid down. Assumes nothing.
+use Prim.Native.Nat.{ℕ, suc, _+_, _≤_, _<_}
+use native.Mathlib.Omega.{arith}
+use mathlib.Core.Path.{_≡_, refl, sym, ap, _∙_}
+use mathlib.Core.Bool.{Bool, true, false, not, _||_, true≢false}
+use mathlib.Core.List.{List, _++_}
+use lib.ListN.{length, take}
+use lib.Seq.{length-take-le}
+use lib.Dec.{eqb, ltb, leb}
+use lib.Ieee.{Float}
+use borrow.Author.Tests.{eqb-true, ltb-false, leb-false, not-false}
+use Rattle.refusal.specs.declared.Refusal.{Refusal}
+use Rattle.refusal.specs.declared.Verdict.{Verdict}
+use Rattle.refusal.specs.declared.Verdict.the-variants as verdict
+use Rattle.refusal.specs.First.{firstOf, faultless}
+use Rattle.documents.specs.Checks.{slicesHold}
+use Rattle.kept_list.specs.Laid.{RoomFor}
+use Rattle.page.specs.Through.{sieveOf}
+use Rattle.probing.specs.declared.Answer.{Answer}
+use Rattle.probing.specs.declared.Answer.the-variants.{Refused}
+use Rattle.probing.specs.declared.Turn.{Turn}
+use Rattle.probing.specs.Probing.{sweep}
+use Rattle.probing.specs.Probed.{Terms, readIn, given, Lends, lends, left, tests, bytesOf, restOf, opened, laid, probed}
+use Rattle.probing.specs.Held.{Turned, turned, counts, heldSweep, answerOf, Ready}
+use Rattle.probing.proofs.Laid.{laidTurn, held-is, answer-laid}
+
+neither : (a b : Bool) → (a || b) ≡ false → (a ≡ false) × (b ≡ false)
+neither true b e = absurd (true≢false e)
+neither false b e = (refl, e)
+
+pub one-more-byte : (n m : ℕ) → suc n ≤ m → n + 1 ≤ m
+one-more-byte n m h = omega arith
+
+pub so-many-bytes : (n : ℕ) (v : List ℕ) → suc n ≤ length v → n + 1 ≡ length (take (n + 1) v)
+so-many-bytes n v h = let m : n + 1 ≤ length v = omega arith in sym (length-take-le (n + 1) v m)
+
+more-bytes : (n : ℕ) (v : List ℕ) → suc n ≤ length v → n < length (take (n + 1) v)
+more-bytes n v h = omega (arith, so-many-bytes n v h)
+
+module _ (k : ℕ) (t : Terms) (l : Lends) (v : Verdict) (e : v ≡ firstOf (tests k t l)) where
+  pub refused-is : (f : Float) (ps os : List ℕ) (xs : List Float) (bs : List ℕ) (r : Refusal) → v ≡ verdict.Refused r → left (Refused r) l ≡ probed k f t ps os xs bs l
+  unfolding probed
+  refused-is f ps os xs bs r h = rw (← e, h)
+
+  module _ (h : v ≡ verdict.Accepted) where
+    pub ready-of : (sieve : List ℕ) → sieve ≡ sieveOf (t .queryComponents) → Ready sieve (t .queryComponents) (t .queryValues) (t .components) (t .values) (length (bytesOf t (l .visits)))
+    ready-of sieve s =
+        let n = faultless (tests k t l) (sym e ∙ h) in
+        let b = neither (ltb (length (l .kept .packed)) k || ltb (length (l .kept .scores)) k) (leb (length (l .visits)) (length (t .components))) (n .1 .1 .1 .0) in
+        record {
+          sieve-is = s;
+          query-holds = not-false (slicesHold (t .queryComponents) (t .queryValues)) (n .0);
+          even = eqb-true (length (t .components)) (length (t .values)) (not-false (eqb (length (t .components)) (length (t .values))) (n .1 .0));
+          has-bytes = more-bytes (length (t .components)) (l .visits) (leb-false (length (l .visits)) (length (t .components)) (b .1));
+        }
+
+    room-of : RoomFor k (l .kept)
+    room-of =
+        let n = faultless (tests k t l) (sym e ∙ h) in
+        let b = neither (ltb (length (l .kept .packed)) k || ltb (length (l .kept .scores)) k) (leb (length (l .visits)) (length (t .components))) (n .1 .1 .1 .0) in
+        let c = neither (ltb (length (l .kept .packed)) k) (ltb (length (l .kept .scores)) k) (b .0) in
+        record {
+          few = ltb-false k (l .kept .size) (n .1 .1 .0);
+          packed-places = ltb-false (length (l .kept .packed)) k (c .0);
+          score-places = ltb-false (length (l .kept .scores)) k (c .1);
+        }
+
+    -- there are bytes for the starts from 0 to the term count
+    pub bytes-are : suc (length (t .components)) ≤ length (l .visits)
+    bytes-are =
+        let n = faultless (tests k t l) (sym e ∙ h) in
+        leb-false (length (l .visits)) (length (t .components)) (neither (ltb (length (l .kept .packed)) k || ltb (length (l .kept .scores)) k) (leb (length (l .visits)) (length (t .components))) (n .1 .1 .1 .0) .1)
+
+    pub accepted-is : (f : Float) (ps os : List ℕ) (xs : List Float) (bs : List ℕ) (u : Turn) (m : Lends) (a : Answer)
+        → turned u m ≡ heldSweep k f (readIn t) ps os xs bs (counts 0 0) (lends (l .kept) (bytesOf t (l .visits))) → a ≡ answerOf u (m .kept .size)
+        → left a (lends (m .kept) (m .visits ++ restOf t (l .visits))) ≡ probed k f t ps os xs bs l
+    unfolding probed
+    accepted-is f ps os xs bs u m a s q =
+        let d : turned u m ≡ laidTurn (l .kept) (sweep (given k f t ps os xs) bs (opened t l)) = s ∙ held-is (given k f t ps os xs) (l .kept) room-of (bytesOf t (l .visits)) bs in
+        rw (← e, h)
+        (ap (λ x. left x (lends (m .kept) (m .visits ++ restOf t (l .visits)))) q
+        ∙ ap (λ (x : Turned). left (answerOf (x .turn) (x .lent .kept .size)) (lends (x .lent .kept) (x .lent .visits ++ restOf t (l .visits)))) d
+        ∙ answer-laid t l (sweep (given k f t ps os xs) bs (opened t l)))

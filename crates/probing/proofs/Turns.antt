@@ -1,0 +1,124 @@
+-- The skip test, a block, and the postings one after another, by the tests that were passed. Assumes nothing.
+use Prim.Native.Nat.{ℕ, zero, suc, _+_, _-_, _≤_, _<_, min}
+use native.Mathlib.Omega.{arith}
+use native.Mathlib.Nat.{sub-zero}
+use native.Mathlib.Numerals.{add-one}
+use mathlib.Core.Path.{_≡_, refl, sym, ap, _∙_}
+use mathlib.Core.Bool.{Bool, true, false, cond}
+use mathlib.Core.List.{List, [], _∷_, map}
+use lib.ListN.{length, getD, List·getD-eq-default}
+use lib.Dec.{eqb}
+use lib.Ieee.{Float, nan, inf, fin, binary32, lt, mul}
+use borrow.Author.Tests.{eq-eqb, ne-eqb}
+use Rattle.lists.specs.Lists.{from}
+use Rattle.refusal.specs.declared.Refusal.{Refusal}
+use Rattle.probing.specs.declared.Block.{Block}
+use Rattle.probing.specs.declared.Counts.{Counts}
+use Rattle.probing.specs.declared.Turn.{Turn}
+use Rattle.probing.specs.declared.Turn.the-variants.{On, Stopped}
+use Rattle.probing.specs.declared.RangeReading.{RangeReading}
+use Rattle.probing.specs.Probing.{Place}
+use Rattle.probing.specs.Probed.{Lends, lends, listed}
+use Rattle.probing.specs.Held.{Turned, turned, counts, heldEvaluate, heldProbe, heldSkips, placesOf, heldTurn, blockAt, heldSweep}
+
+-- ---- the skip test
+mul-nan : (f : Float) → mul binary32 f nan ≡ nan
+unfolding mul
+mul-nan nan = refl
+mul-nan (inf s) = refl
+mul-nan (fin s m e) = refl
+
+lt-nan : (x : Float) → lt x nan ≡ false
+unfolding lt
+lt-nan nan = refl
+lt-nan (inf s) = refl
+lt-nan (fin s m e) = refl
+
+no-worst : (f x : Float) → lt x (mul binary32 f nan) ≡ false
+no-worst f x = ap (lt x) (mul-nan f) ∙ lt-nan x
+
+module _ (k : ℕ) (f x : Float) (n : ℕ) (xs : List Float) where
+  pub skips-few : (n ≡ k → ⊥) → false ≡ heldSkips k f x n xs
+  unfolding heldSkips
+  skips-few h = rw (ne-eqb n k h)
+
+  pub skips-none : n ≡ k → n ≡ 0 → false ≡ heldSkips k f x n xs
+  unfolding heldSkips
+  skips-none h z = rw (eq-eqb n k h, eq-eqb n 0 z) (sym (no-worst f x))
+
+  pub skips-short : n ≡ k → (n ≡ 0 → ⊥) → length xs ≤ n - 1 → false ≡ heldSkips k f x n xs
+  unfolding heldSkips
+  skips-short h z l = rw (eq-eqb n k h, ne-eqb n 0 z, List·getD-eq-default xs nan l) (sym (no-worst f x))
+
+  pub skips-test : n ≡ k → (n ≡ 0 → ⊥) → lt x (mul binary32 f (getD xs (n - 1) nan)) ≡ heldSkips k f x n xs
+  unfolding heldSkips
+  skips-test h z = rw (eq-eqb n k h, ne-eqb n 0 z)
+
+-- ---- a block
+pub block-is : (os : List ℕ) (xs : List Float) (b : ℕ) (x : Float) (s e : ℕ) → x ≡ getD xs b nan → s ≡ getD os b 0 → e ≡ getD os (b + 1) 0 → _≡_ {A = Block} (record { score = x; start = s; end = e }) (blockAt os xs b)
+unfolding blockAt
+block-is os xs b x s e p q r = rw (p, q, r)
+
+-- ---- postings, one after another
+module _ (k : ℕ) (read : ℕ → RangeReading) (ps : List ℕ) (i e : ℕ) (c : Counts) (l : Lends) where
+  abbrev probeFrom : Turned
+  probeFrom = heldProbe k read ps (from i (e - i)) c l
+
+  pub probe-on : (t : Turn) (m : Lends) (d : Counts) → i < e → t ≡ On d → turned t m ≡ heldEvaluate k read (getD ps i 0) i c l → heldProbe k read ps (from (i + 1) (e - (i + 1))) d m ≡ probeFrom
+  unfolding heldProbe
+  probe-on t m d h g f = let z : e - i ≡ suc (e - (i + 1)) = omega arith in rw (z, ← f, g, add-one i)
+
+  pub probe-stop : (t : Turn) (m : Lends) (r : Refusal) (j : ℕ) → i < e → t ≡ Stopped r j → turned t m ≡ heldEvaluate k read (getD ps i 0) i c l → turned (Stopped r j) m ≡ probeFrom
+  unfolding heldProbe
+  probe-stop t m r j h g f = let z : e - i ≡ suc (e - (i + 1)) = omega arith in rw (z, ← f, g)
+
+  pub probe-end : e ≤ i → turned (On c) l ≡ probeFrom
+  unfolding heldProbe
+  probe-end h = let z : e - i ≡ 0 = omega arith in rw z
+
+-- ---- a block's turn
+module _ (k : ℕ) (f : Float) (read : ℕ → RangeReading) (ps : List ℕ) (b : Block) (c : Counts) (l : Lends) where
+  pub turn-skips : heldSkips k f (b .score) (l .kept .size) (l .kept .scores) ≡ true → turned (On (counts (c .evaluated) (c .skipped + 1))) l ≡ heldTurn k f read ps b c l
+  unfolding heldTurn
+  turn-skips h = rw h
+
+  pub turn-probes : (t : Turned) (e : ℕ) → heldSkips k f (b .score) (l .kept .size) (l .kept .scores) ≡ false → e ≡ min (b .end) (length ps) → t ≡ heldProbe k read ps (from (b .start) (e - b .start)) c l → t ≡ heldTurn k f read ps b c l
+  unfolding heldTurn
+  turn-probes t e h g r = rw h (r ∙ ap (λ x. heldProbe k read ps (from (b .start) (x - b .start)) c l) g)
+
+-- ---- blocks, one after another: the first of those that are left has its turn
+module _ (k : ℕ) (f : Float) (read : ℕ → RangeReading) (ps os : List ℕ) (xs : List Float) (b : ℕ) (rest all : List ℕ) (is : all ≡ b ∷ rest) (c : Counts) (l : Lends) (q : Block) (at : q ≡ blockAt os xs b) where
+  pub sweep-on : (t : Turn) (m : Lends) (d : Counts) → t ≡ On d → turned t m ≡ heldTurn k f read ps q c l → heldSweep k f read ps os xs rest d m ≡ heldSweep k f read ps os xs all c l
+  unfolding heldSweep
+  sweep-on t m d g e = rw (is, ← at, ← e, g)
+
+  pub sweep-stop : (t : Turn) (m : Lends) (r : Refusal) (j : ℕ) → t ≡ Stopped r j → turned t m ≡ heldTurn k f read ps q c l → turned (Stopped r j) m ≡ heldSweep k f read ps os xs all c l
+  unfolding heldSweep
+  sweep-stop t m r j g e = rw (is, ← at, ← e, g)
+
+pub sweep-end : (k : ℕ) (f : Float) (read : ℕ → RangeReading) (ps os : List ℕ) (xs : List Float) (all : List ℕ) (c : Counts) (l : Lends) → all ≡ [] → turned (On c) l ≡ heldSweep k f read ps os xs all c l
+unfolding heldSweep
+sweep-end k f read ps os xs all c l e = rw e
+
+-- ---- what is left of the turns
+abbrev pub listedFrom : List ℕ → ℕ → ℕ → List ℕ
+listedFrom os i n = map (λ j. getD os j j) (from i (n - i))
+
+pub listed-next : (os : List ℕ) (i n : ℕ) → i < n → listedFrom os i n ≡ getD os i i ∷ listedFrom os (i + 1) n
+listed-next os i n h = let z : n - i ≡ suc (n - (i + 1)) = omega arith in rw (z, add-one i)
+
+pub listed-none : (os : List ℕ) (i n : ℕ) → n ≤ i → listedFrom os i n ≡ []
+listed-none os i n h = let z : n - i ≡ 0 = omega arith in rw z
+
+pub listed-all : (os : List ℕ) (n : ℕ) → listedFrom os 0 n ≡ listed os n
+listed-all os n = ap (λ m. map (λ j. getD os j j) (from 0 m)) (sub-zero n)
+
+pub number-there : (os : List ℕ) (i : ℕ) → i < length os → getD os i 0 ≡ getD os i i
+number-there [] i h = absurd (omega arith)
+number-there (o ∷ os) zero h = refl
+number-there (o ∷ os) (suc i) h = again os i (suc i) (omega arith)
+  where
+    again : (l : List ℕ) (j d : ℕ) → j < length l → getD l j 0 ≡ getD l j d
+    again [] j d h = absurd (omega arith)
+    again (x ∷ l) zero d h = refl
+    again (x ∷ l) (suc j) d h = again l j d (omega arith)

@@ -1,0 +1,90 @@
+-- `probing::evaluate`: at each return the visit byte and the reading pick the case. Assumes nothing.
+use mathlib.Core.Path.{_≡_, refl, sym, ap, _∙_}
+use Prim.Native.Nat.{_+_}
+use lib.ListN.{length}
+use Rattle.kept_list.specs.Lent.{lent}
+use Rattle.kept_list.specs.Entry.{scored}
+use Rattle.probing.specs.Ranges.{rangeReading}
+use Rattle.probing.specs.Probed.{lends}
+use Rattle.probing.proofs.Steps.{reading-of, eval-passed, eval-past, eval-breaks, eval-found, visited-by, found-by, end-by, one-more}
+use borrow.Author.Needs.{needs}
+use native.Mathlib.Omega.{arith}
+use Rattle.probing.proofs.evaluate.Statement.{statement}
+use Rattle.probing.proofs.evaluate.Tie as tie
+
+unpack-requires : tie.Need-unpack-requires
+unpack-requires c κs = search needs
+
+is-visited-requires : tie.Need-is-visited-requires
+is-visited-requires c κs = search needs
+
+same-length : tie.Need-same-length
+same-length c = search needs
+
+returns : tie.Need-returns
+returns c = let a = c .before .before .before .before .before .before .before .before .before .before .before .before .args in eval-passed (a .k) (rangeReading (a .asked .now) (a .weights .now) (a .components .now) (a .values .now)) (a .posting .0) (a .position) (a .counts) (lends (lent (a .length .now) (a .packed .now) (a .scores .now)) (a .visits .now)) (visited-by (a .posting .0) (c .before .before .before .before .unpack .result) (c .before .before .before .before .unpack .ensures) (a .visits .now) (c .before .is-visited .result) (c .before .is-visited .ensures) ∙ c .if1 .taken)
+
+read-range-requires : tie.Need-read-range-requires
+read-range-requires c κs = let a = c .before .before .before .before .before .before .before .before .before .before .before .before .args in let r = c .before .before .before .before .before .before .before .before .before .before .before .before .pre .0 in (record { sieve-is = r .sieve-is; query-holds = r .query-holds; even = r .even; has-bytes = omega arith }, end-by (a .posting .0) (c .before .before .before .before .unpack .result) (c .before .before .before .before .unpack .ensures))
+
+enum-told : tie.Need-enum-told
+enum-told c = search needs
+
+enum-told-2 : tie.Need-enum-told-2
+enum-told-2 c = search needs
+
+enum-known-r : tie.Need-enum-known-r
+enum-known-r c = search needs
+
+keep-found-requires : tie.Need-keep-found-requires
+keep-found-requires c κs = search needs
+
+add-t32 : tie.Need-add-t32
+add-t32 c = let a = c .before .before .before .before .before .before .before .before .before .before .before .before .before .before .before .before .before .before .before .before .before .before .before .before .before .before .before .before .args in omega (arith, one-more (a .posting .0) (c .before .before .before .before .before .before .before .before .before .before .before .before .before .before .before .before .before .before .before .before .unpack .result) (c .before .before .before .before .before .before .before .before .before .before .before .before .before .before .before .before .before .before .before .before .unpack .ensures) (a .sieve .now) (a .asked .now) (a .weights .now) (a .components .now) (a .values .now) (a .visits .now) (a .counts .evaluated) (c .before .before .before .before .before .before .before .before .before .before .before .before .before .r .given .0 .0) (c .before .before .before .before .before .before .before .before .before .before .before .before .before .before .before .before .before .before .before .before .before .before .before .before .before .before .before .before .pre .0) (sym (c .before .before .before .before .before .before .before .before .before .before .before .before .before .before .before .before .if1 .left) ∙ c .before .before .before .before .before .before .before .before .before .before .before .before .before .before .before .before .before .is-visited .ensures) (sym (c .before .before .before .before .before .before .before .before .before .before .before .before .before .r .given .1) ∙ c .before .before .before .before .before .before .before .before .before .before .before .before .before .before .before .read-range .ensures) (c .before .before .before .before .before .before .before .before .before .before .before .before .before .before .before .before .before .before .before .before .before .before .before .before .before .before .before .before .pre .1), c .before .before .before .before .before .before .before .before .before .before .before .before .before .before .before .before .before .before .before .before .before .before .before .before .before .before .before .before .good .1 .1 .1 .1 .1 .1 .1 .1 .1 .1 .1 .0 .0)
+
+same-length-2 : tie.Need-same-length-2
+same-length-2 c = search needs
+
+returns-2 : tie.Need-returns-2
+returns-2 c = let a = c .before .before .before .before .before .before .before .before .before .before .before .before .before .before .before .args in eval-past (a .k) (rangeReading (a .asked .now) (a .weights .now) (a .components .now) (a .values .now)) (a .posting .0) (a .position) (a .counts) (lends (lent (a .length .now) (a .packed .now) (a .scores .now)) (a .visits .now)) (visited-by (a .posting .0) (c .before .before .before .before .before .before .before .unpack .result) (c .before .before .before .before .before .before .before .unpack .ensures) (a .visits .now) (c .before .before .before .before .is-visited .result) (c .before .before .before .before .is-visited .ensures) ∙ c .before .before .before .if1 .left) (reading-of (a .asked .now) (a .weights .now) (a .components .now) (a .values .now) (a .posting .0) (c .before .before .before .before .before .before .before .unpack .result) (c .before .before .before .before .before .before .before .unpack .ensures) (c .before .before .read-range .result) (c .before .before .read-range .ensures) ∙ c .enum-told .given .1)
+
+same-length-3 : tie.Need-same-length-3
+same-length-3 c = search needs
+
+returns-3 : tie.Need-returns-3
+returns-3 c = let a = c .before .before .before .before .before .before .before .before .before .before .before .before .before .before .before .args in eval-breaks (a .k) (rangeReading (a .asked .now) (a .weights .now) (a .components .now) (a .values .now)) (a .posting .0) (a .position) (a .counts) (lends (lent (a .length .now) (a .packed .now) (a .scores .now)) (a .visits .now)) (visited-by (a .posting .0) (c .before .before .before .before .before .before .before .unpack .result) (c .before .before .before .before .before .before .before .unpack .ensures) (a .visits .now) (c .before .before .before .before .is-visited .result) (c .before .before .before .before .is-visited .ensures) ∙ c .before .before .before .if1 .left) (reading-of (a .asked .now) (a .weights .now) (a .components .now) (a .values .now) (a .posting .0) (c .before .before .before .before .before .before .before .unpack .result) (c .before .before .before .before .before .before .before .unpack .ensures) (c .before .before .read-range .result) (c .before .before .read-range .ensures) ∙ c .enum-told2 .given .1)
+
+same-length-4 : tie.Need-same-length-4
+same-length-4 c = search needs
+
+same-length-5 : tie.Need-same-length-5
+same-length-5 c = search needs
+
+same-length-6 : tie.Need-same-length-6
+same-length-6 c = search needs
+
+returns-4 : tie.Need-returns-4
+returns-4 c = let a = c .before .before .before .before .before .before .before .before .before .before .before .before .before .before .before .before .before .before .before .before .before .before .before .before .before .before .before .before .args in eval-found (a .k) (rangeReading (a .asked .now) (a .weights .now) (a .components .now) (a .values .now)) (a .posting .0) (a .position) (a .counts) (lends (lent (a .length .now) (a .packed .now) (a .scores .now)) (a .visits .now)) (visited-by (a .posting .0) (c .before .before .before .before .before .before .before .before .before .before .before .before .before .before .before .before .before .before .before .before .unpack .result) (c .before .before .before .before .before .before .before .before .before .before .before .before .before .before .before .before .before .before .before .before .unpack .ensures) (a .visits .now) (c .before .before .before .before .before .before .before .before .before .before .before .before .before .before .before .before .before .is-visited .result) (c .before .before .before .before .before .before .before .before .before .before .before .before .before .before .before .before .before .is-visited .ensures) ∙ c .before .before .before .before .before .before .before .before .before .before .before .before .before .before .before .before .if1 .left) (c .before .before .before .before .before .before .before .before .before .before .before .before .before .r .given .0 .0) (reading-of (a .asked .now) (a .weights .now) (a .components .now) (a .values .now) (a .posting .0) (c .before .before .before .before .before .before .before .before .before .before .before .before .before .before .before .before .before .before .before .before .unpack .result) (c .before .before .before .before .before .before .before .before .before .before .before .before .before .before .before .before .before .before .before .before .unpack .ensures) (c .before .before .before .before .before .before .before .before .before .before .before .before .before .before .before .read-range .result) (c .before .before .before .before .before .before .before .before .before .before .before .before .before .before .before .read-range .ensures) ∙ c .before .before .before .before .before .before .before .before .before .before .before .before .before .r .given .1) _ (found-by (a .posting .0) (c .before .before .before .before .before .before .before .before .before .before .before .before .before .before .before .before .before .before .before .before .unpack .result) (c .before .before .before .before .before .before .before .before .before .before .before .before .before .before .before .before .before .before .before .before .unpack .ensures) (a .k) (c .before .before .before .before .before .before .before .before .before .before .before .before .before .r .given .0 .0) (lends (lent (a .length .now) (a .packed .now) (a .scores .now)) (a .visits .now)) _ (c .before .before .before .before .before .before .before .keep-found .ensures))
+
+pub evaluate-spec : {M : Type 1} → statement M
+evaluate-spec =
+    tie.close
+    (tie.spec
+    unpack-requires
+    is-visited-requires
+    same-length
+    returns
+    read-range-requires
+    enum-told
+    enum-told-2
+    enum-known-r
+    keep-found-requires
+    add-t32
+    same-length-2
+    returns-2
+    same-length-3
+    returns-3
+    same-length-4
+    same-length-5
+    same-length-6
+    returns-4)

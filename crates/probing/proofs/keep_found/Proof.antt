@@ -1,0 +1,30 @@
+-- `probing::keep_found`: settled, and marked. Assumes nothing.
+use Rattle.kept_list.specs.Lent.{lent}
+use Rattle.probing.specs.Probed.{lends}
+use Rattle.probing.proofs.Steps.{kept-marked}
+use borrow.Author.Needs.{needs}
+use Rattle.probing.proofs.keep_found.Statement.{statement}
+use Rattle.probing.proofs.keep_found.Tie as tie
+
+settle-requires : tie.Need-settle-requires
+settle-requires c κs = search needs
+
+visit-requires : tie.Need-visit-requires
+visit-requires c κs = search needs
+
+same-length : tie.Need-same-length
+same-length c = search needs
+
+same-length-2 : tie.Need-same-length-2
+same-length-2 c = search needs
+
+same-length-3 : tie.Need-same-length-3
+same-length-3 c = search needs
+
+returns : tie.Need-returns
+returns c = let a = c .before .before .before .before .before .before .before .before .before .before .before .before .before .before .before .args in kept-marked (a .k) (a .posting .0) (a .start .0) (a .score) (lends (lent (a .length .now) (a .packed .now) (a .scores .now)) (a .visits .now)) _ _ (c .before .before .before .before .before .before .before .before .settle .ensures) (c .before .before .visit .ensures)
+
+pub keep-found-spec : {M : Type 1} → statement M
+keep-found-spec =
+    tie.close
+    (tie.spec settle-requires visit-requires same-length same-length-2 same-length-3 returns)

@@ -1,0 +1,70 @@
+-- `probing::read_range`: 13 where the range reaches past the terms, else the page's reading. Assumes nothing.
+use mathlib.Core.Path.{sym, ap, _∙_}
+use Prim.Native.Nat.{_+_}
+use lib.ListN.{length}
+use Rattle.probing.specs.Ranges.{ofPage}
+use Rattle.probing.proofs.Steps.{range-past, range-read}
+use borrow.Author.Needs.{needs}
+use Rattle.probing.proofs.read_range.Statement.{statement}
+use Rattle.probing.proofs.read_range.Tie as tie
+
+returns : tie.Need-returns
+returns c = let a = c .before .before .before .before .before .args in range-past (a .asked .now) (a .weights .now) (a .components .now) (a .values .now) (a .start .0) (a .end) (c .if1 .taken)
+
+mul-read : tie.Need-mul-read
+mul-read c = search needs
+
+sub-read : tie.Need-sub-read
+sub-read c = search needs
+
+part-read-start : tie.Need-part-read-start
+part-read-start c = search needs
+
+part-read-end : tie.Need-part-read-end
+part-read-end c = search needs
+
+mul-read-2 : tie.Need-mul-read-2
+mul-read-2 c = search needs
+
+sub-read-2 : tie.Need-sub-read-2
+sub-read-2 c = search needs
+
+part-read-start-2 : tie.Need-part-read-start-2
+part-read-start-2 c = search needs
+
+part-read-end-2 : tie.Need-part-read-end-2
+part-read-end-2 c = search needs
+
+read-requires : tie.Need-read-requires
+read-requires c κs = search needs
+
+enum-told : tie.Need-enum-told
+enum-told c = search needs
+
+enum-known-r : tie.Need-enum-known-r
+enum-known-r c = search needs
+
+returns-2 : tie.Need-returns-2
+returns-2 c = let a = c .before .before .before .before .before .before .before .before .before .before .args in ap ofPage (sym (c .enum-told .given .1)) ∙ range-read (a .sieve .now) (a .asked .now) (a .weights .now) (a .components .now) (a .values .now) (length (a .components .now) + 1) (a .start .0) (a .end) (c .before .before .read .result) (c .before .before .before .before .before .before .before .before .before .before .pre .0) (c .before .before .before .before .before .if1 .left) (c .before .before .read .ensures)
+
+returns-3 : tie.Need-returns-3
+returns-3 c = let a = c .before .before .before .before .before .before .before .before .before .before .before .args in ap ofPage (sym (c .before .r .given .1)) ∙ range-read (a .sieve .now) (a .asked .now) (a .weights .now) (a .components .now) (a .values .now) (length (a .components .now) + 1) (a .start .0) (a .end) (c .before .before .before .read .result) (c .before .before .before .before .before .before .before .before .before .before .before .pre .0) (c .before .before .before .before .before .before .if1 .left) (c .before .before .before .read .ensures)
+
+pub read-range-spec : {M : Type 1} → statement M
+read-range-spec =
+    tie.close
+    (tie.spec
+    returns
+    mul-read
+    sub-read
+    part-read-start
+    part-read-end
+    mul-read-2
+    sub-read-2
+    part-read-start-2
+    part-read-end-2
+    read-requires
+    enum-told
+    enum-known-r
+    returns-2
+    returns-3)

@@ -1,0 +1,5 @@
+pub mod Probing
+pub mod Ranges
+pub mod Probed
+pub mod Held
+pub mod Counted

@@ -1,0 +1,98 @@
+-- What probing leaves: its answer, the kept list where it lies, and the visit bytes.
+use Prim.Native.Nat.{ℕ, _+_}
+use mathlib.Core.Bool.{Bool, not, _||_}
+use mathlib.Core.List.{List, [], _∷_, _++_, map}
+use lib.ListN.{length, getD, take, drop}
+use lib.Dec.{eqb, leb, ltb}
+use lib.Ieee.{Float}
+use Rattle.lists.specs.Lists.{from}
+use Rattle.refusal.specs.declared.Refusal.{Refusal}
+use Rattle.refusal.specs.declared.Refusal.the-variants.{WrongQuery, WrongDocuments, WrongKeptList, BufferTooShort}
+use Rattle.refusal.specs.declared.Verdict.{Verdict}
+use Rattle.refusal.specs.declared.Verdict.the-variants as verdict
+use Rattle.refusal.specs.Refusals.{numberOf}
+use Rattle.refusal.specs.First.{Test, _gives_, firstOf}
+use Rattle.documents.specs.Checks.{slicesHold}
+use Rattle.kept_list.specs.Lent.{Lent, entries, written}
+use Rattle.probing.specs.declared.Answer.{Answer}
+use Rattle.probing.specs.declared.Answer.the-variants.{Refused, Stopped, Found}
+use Rattle.probing.specs.Probing.{Given, State, state, Reached, goesOn, stopsAt, sweep}
+use Rattle.probing.specs.Ranges.{rangeReading}
+
+-- an answer in document 01's terms: the number of the refusal, or 0, and the values that go with it
+pub record InNumbers : Type 0 where
+  pub number : ℕ
+  pub values : List ℕ
+
+abbrev pub inNumbers : Answer → InNumbers
+inNumbers (Refused r) = record { number = numberOf r; values = [] }
+inNumbers (Stopped r i) = record { number = numberOf r; values = i ∷ [] }
+inNumbers (Found n e s) = record { number = 0; values = n ∷ e ∷ s ∷ [] }
+
+-- the query and the documents' terms
+pub record Terms : Type 0 where
+  pub queryComponents : List ℕ
+  pub queryValues : List Float
+  pub components : List ℕ
+  pub values : List Float
+
+abbrev pub terms : List ℕ → List Float → List ℕ → List Float → Terms
+terms qs ws cs vs = record { queryComponents = qs; queryValues = ws; components = cs; values = vs }
+
+abbrev pub readIn : Terms → ℕ → Rattle.probing.specs.declared.RangeReading.RangeReading
+readIn t = rangeReading (t .queryComponents) (t .queryValues) (t .components) (t .values)
+
+abbrev pub given : ℕ → Float → Terms → List ℕ → List ℕ → List Float → Given
+given k factor t ps os xs = record { k = k; factor = factor; postings = ps; offsets = os; blockScores = xs; read = readIn t }
+
+-- what is lent: the kept list and the visit bytes
+pub record Lends : Type 0 where
+  pub kept : Lent
+  pub visits : List ℕ
+
+abbrev pub lends : Lent → List ℕ → Lends
+lends l v = record { kept = l; visits = v }
+
+pub record Left : Type 0 where
+  pub answer : Answer
+  pub lent : Lends
+
+abbrev pub left : Answer → Lends → Left
+left a l = record { answer = a; lent = l }
+
+-- no more kept than k, places for k, and a visit byte for each start from 0 to the term count
+abbrev pub tests : ℕ → Terms → Lends → List Test
+tests k t l =
+    (not (slicesHold (t .queryComponents) (t .queryValues)) gives WrongQuery)
+    ∷ (not (eqb (length (t .components)) (length (t .values))) gives WrongDocuments)
+    ∷ (ltb k (l .kept .size) gives WrongKeptList)
+    ∷ (((ltb (length (l .kept .packed)) k || ltb (length (l .kept .scores)) k) || leb (length (l .visits)) (length (t .components))) gives BufferTooShort)
+    ∷ []
+
+-- one visit byte for each start, 0 to the term count; the bytes past them are not looked at
+abbrev pub bytesOf : Terms → List ℕ → List ℕ
+bytesOf t visits = take (length (t .components) + 1) visits
+
+abbrev pub restOf : Terms → List ℕ → List ℕ
+restOf t visits = drop (length (t .components) + 1) visits
+
+-- what was reached, laid down where the kept list and the visit bytes lie; what lies past them is unchanged
+abbrev pub laid : Terms → Lends → Reached → Left
+laid t l (goesOn s) = left (Found (length (s .kept)) (s .evaluated) (s .skipped)) (lends (written (s .kept) (l .kept)) (s .visits ++ restOf t (l .visits)))
+laid t l (stopsAt r i s) = left (Stopped r i) (lends (written (s .kept) (l .kept)) (s .visits ++ restOf t (l .visits)))
+
+abbrev pub ifAccepted : Verdict → Left → Lends → Left
+ifAccepted verdict.Accepted done l = done
+ifAccepted (verdict.Refused r) done l = left (Refused r) l
+
+-- the kept entries and the visit bytes as they are lent, nothing counted yet
+abbrev pub opened : Terms → Lends → State
+opened t l = state (entries (l .kept)) (bytesOf t (l .visits)) 0 0
+
+-- the blocks of so many turns: in the order given as far as it goes, and then in number order
+abbrev pub listed : List ℕ → ℕ → List ℕ
+listed order n = map (λ i. getD order i i) (from 0 n)
+
+-- the blocks have their turns in the order given
+unfoldable pub probed : ℕ → Float → Terms → List ℕ → List ℕ → List Float → List ℕ → Lends → Left
+probed k factor t ps os xs blocks l = ifAccepted (firstOf (tests k t l)) (laid t l (sweep (given k factor t ps os xs) blocks (opened t l))) l

@@ -1,0 +1,544 @@
+// Probing: the blocks of a posting list have their turns, and the postings of a block that is not skipped are evaluated. The scores
+// of the blocks are given; where they come from is not known here.
+ghost use mathlib.Core.Path.{_≡_};
+ghost use mathlib.Core.Bool.{not};
+ghost use Prim.Native.Nat.{_+_, _-_, _<_, _≤_, min};
+ghost use lib.ListN.{length as len, getD, set};
+ghost use lib.Dec.{eqb};
+ghost use lib.Ieee.{nan};
+ghost use Rattle.lists.specs.Lists.{from};
+ghost use Rattle.refusal.specs.First.{firstOf};
+ghost use Rattle.kept_list.specs.Lent.{lent};
+ghost use Rattle.probing.specs.Ranges.{rangeAt, rangeReading};
+ghost use Rattle.probing.specs.Probed.{terms, lends, left, tests, listed, probed};
+ghost use Rattle.probing.specs.Held.{counts as counted, turned, keptFound, heldEvaluate, heldProbe, heldSkips, heldTurn, blockAt, heldSweep, answerOf, Ready};
+ghost use Rattle.probing.specs.Counted.{unvisited};
+use kept_list::Scored;
+use names::BlockNumber;
+use names::RangeStart;
+use packing::PackedPosting;
+use page::Reading;
+use refusal::Refusal;
+use refusal::Verdict;
+
+// What a search says: a refusal; a posting at which it was stopped, by its place among the postings; or how many entries are kept,
+// how many postings were evaluated and how many blocks skipped.
+pub enum Answer {
+    Refused(Refusal),
+    Stopped {
+        reason: Refusal,
+        position: u64,
+    },
+    Found {
+        kept: u64,
+        evaluated: u64,
+        skipped: u64,
+    },
+}
+
+// What reading a posting's range says.
+pub enum RangeReading {
+    ReachesPast,
+    Breaks,
+    Score(f32),
+}
+
+// A block at its turn: its score, and where its postings start and end.
+struct Block {
+    score: f32,
+    start: u64,
+    end: u64,
+}
+
+// The postings evaluated and the blocks skipped so far.
+struct Counts {
+    evaluated: u64,
+    skipped: u64,
+}
+
+// Whether the turns go on, and with which counts.
+enum Turn {
+    On(Counts),
+    Stopped { reason: Refusal, position: u64 },
+}
+
+// A start is visited where it has a byte that is not 0.
+fn is_visited(visits: &[u8], start: RangeStart) -> bool
+    ensures { λ r. ⌜ r ≡ not (eqb (getD (now (visits .entry)) (start .0) 0) 0) ⌝ }
+{
+    let at = start.0 as usize;
+    if visits.len() <= at {
+        return false;
+    }
+    visits[at] != 0
+}
+
+// A visit writes 1.
+fn visit(visits: &mut [u8], start: RangeStart)
+    ensures { λ _. ⌜ now (visits .exit) ≡ set (now (visits .entry)) (start .0) 1 ⌝ }
+{
+    let at = start.0 as usize;
+    if at < visits.len() {
+        visits[at] = 1;
+    }
+}
+
+// The terms from a start to below an end, read against the query.
+fn read_range(
+    sieve: &[u8; 4096],
+    asked: &[u32],
+    weights: &[f32],
+    components: &[u32],
+    values: &[f32],
+    start: RangeStart,
+    end: u64,
+) -> RangeReading
+    requires { ⌜ Ready (now sieve) (now asked) (now weights) (now components) (now values) (len (now components) + 1) ⌝ }
+    requires { ⌜ start .0 ≤ end ⌝ }
+    ensures { λ r. ⌜ r ≡ rangeAt (now (asked .entry)) (now (weights .entry)) (now (components .entry)) (now (values .entry)) (start .0) end ⌝ }
+{
+    let from = start.0 as usize;
+    let to = end as usize;
+    if components.len() < to {
+        return RangeReading::ReachesPast;
+    }
+    let r = page::read(
+        sieve,
+        &components[from..to],
+        &values[from..to],
+        asked,
+        weights,
+    );
+    match r {
+        Reading::Breaks => RangeReading::Breaks,
+        Reading::Score(x) => RangeReading::Score(x),
+    }
+}
+
+// A posting that was scored is kept if it is among the k best, and its start is marked.
+fn keep_found(
+    k: u64,
+    posting: PackedPosting,
+    start: RangeStart,
+    score: f32,
+    length: &mut u64,
+    packed: &mut [u64],
+    scores: &mut [f32],
+    visits: &mut [u8],
+)
+    ensures { λ _. ⌜ lends (lent (now (length .exit)) (now (packed .exit)) (now (scores .exit))) (now (visits .exit))
+        ≡ keptFound k (posting .0) (start .0) score (lends (lent (now (length .entry)) (now (packed .entry)) (now (scores .entry))) (now (visits .entry))) ⌝ }
+{
+    let e = Scored {
+        packed: posting.0,
+        score: score,
+    };
+    kept_list::settle(k, length, packed, scores, e);
+    visit(visits, start);
+}
+
+// One posting: passed over where its start was visited; else its range is read, and a scored one is kept if it is among the k best,
+// and its start is marked. Nothing changes where it stops the search.
+fn evaluate(
+    sieve: &[u8; 4096],
+    asked: &[u32],
+    weights: &[f32],
+    components: &[u32],
+    values: &[f32],
+    k: u64,
+    posting: PackedPosting,
+    position: u64,
+    length: &mut u64,
+    packed: &mut [u64],
+    scores: &mut [f32],
+    visits: &mut [u8],
+    counts: Counts,
+) -> Turn
+    requires { ⌜ Ready (now sieve) (now asked) (now weights) (now components) (now values) (len (now visits)) ⌝ }
+    requires { ⌜ counts .evaluated + unvisited (now visits) ≤ len (now visits) ⌝ }
+    ensures { λ r. ⌜ turned r (lends (lent (now (length .exit)) (now (packed .exit)) (now (scores .exit))) (now (visits .exit)))
+        ≡ heldEvaluate k (rangeReading (now (asked .entry)) (now (weights .entry)) (now (components .entry)) (now (values .entry)))
+        (posting .0) position counts (lends (lent (now (length .entry)) (now (packed .entry)) (now (scores .entry))) (now (visits .entry))) ⌝ }
+{
+    let range = posting.unpack();
+    let start = range.start;
+    if is_visited(visits, start) {
+        return Turn::On(counts);
+    }
+    let r = read_range(sieve, asked, weights, components, values, start, range.end);
+    match r {
+        RangeReading::ReachesPast => Turn::Stopped {
+            reason: Refusal::PastTheTerms,
+            position: position,
+        },
+        RangeReading::Breaks => Turn::Stopped {
+            reason: Refusal::WrongTerms,
+            position: position,
+        },
+        RangeReading::Score(x) => {
+            keep_found(k, posting, start, x, length, packed, scores, visits);
+            Turn::On(Counts {
+                evaluated: counts.evaluated + 1,
+                skipped: counts.skipped,
+            })
+        }
+    }
+}
+
+// The postings from one position to below another, one after another.
+fn probe_postings(
+    sieve: &[u8; 4096],
+    asked: &[u32],
+    weights: &[f32],
+    components: &[u32],
+    values: &[f32],
+    k: u64,
+    postings: &[u64],
+    first: usize,
+    end: usize,
+    length: &mut u64,
+    packed: &mut [u64],
+    scores: &mut [f32],
+    visits: &mut [u8],
+    counts: Counts,
+) -> Turn
+    requires { ⌜ Ready (now sieve) (now asked) (now weights) (now components) (now values) (len (now visits)) ⌝ }
+    requires { ⌜ counts .evaluated + unvisited (now visits) ≤ len (now visits) ⌝ }
+    requires { ⌜ end ≤ len (now postings) ⌝ }
+    ensures { λ r. ⌜ turned r (lends (lent (now (length .exit)) (now (packed .exit)) (now (scores .exit))) (now (visits .exit)))
+        ≡ heldProbe k (rangeReading (now (asked .entry)) (now (weights .entry)) (now (components .entry)) (now (values .entry)))
+        (now (postings .entry)) (from first (end - first)) counts (lends (lent (now (length .entry)) (now (packed .entry)) (now (scores .entry))) (now (visits .entry))) ⌝ }
+{
+    let mut c = counts;
+    let mut i = first;
+    while i < end {
+        let t = evaluate(
+            sieve,
+            asked,
+            weights,
+            components,
+            values,
+            k,
+            PackedPosting(postings[i]),
+            i as u64,
+            length,
+            packed,
+            scores,
+            visits,
+            c,
+        );
+        match t {
+            Turn::On(d) => {
+                c = d;
+            }
+            Turn::Stopped { reason, position } => {
+                return Turn::Stopped {
+                    reason: reason,
+                    position: position,
+                };
+            }
+        }
+        i += 1;
+    }
+    Turn::On(c)
+}
+
+// Whether a block is skipped: k are kept, and its score is below the factor times the worst kept score.
+fn skips(k: u64, factor: f32, score: f32, length: u64, scores: &[f32]) -> bool
+    ensures { λ r. ⌜ r ≡ heldSkips k factor score length (now (scores .entry)) ⌝ }
+{
+    if length != k {
+        return false;
+    }
+    if length == 0 {
+        return false;
+    }
+    let last = (length - 1) as usize;
+    if scores.len() <= last {
+        return false;
+    }
+    score < factor * scores[last]
+}
+
+fn least(a: u64, b: usize) -> usize
+    ensures { λ r. ⌜ r ≡ min a b ⌝ }
+{
+    let n = a as usize;
+    if n <= b { n } else { b }
+}
+
+// A block's turn. The test is made with what is kept now; a skipped block marks nothing.
+fn take_turn(
+    sieve: &[u8; 4096],
+    asked: &[u32],
+    weights: &[f32],
+    components: &[u32],
+    values: &[f32],
+    k: u64,
+    factor: f32,
+    postings: &[u64],
+    block: Block,
+    length: &mut u64,
+    packed: &mut [u64],
+    scores: &mut [f32],
+    visits: &mut [u8],
+    counts: Counts,
+) -> Turn
+    requires { ⌜ Ready (now sieve) (now asked) (now weights) (now components) (now values) (len (now visits)) ⌝ }
+    requires { ⌜ counts .evaluated + unvisited (now visits) ≤ len (now visits) ⌝ }
+    requires { ⌜ counts .skipped < 18446744073709551615 ⌝ }
+    ensures { λ r. ⌜ turned r (lends (lent (now (length .exit)) (now (packed .exit)) (now (scores .exit))) (now (visits .exit)))
+        ≡ heldTurn k factor (rangeReading (now (asked .entry)) (now (weights .entry)) (now (components .entry)) (now (values .entry)))
+        (now (postings .entry)) block counts (lends (lent (now (length .entry)) (now (packed .entry)) (now (scores .entry))) (now (visits .entry))) ⌝ }
+{
+    let n = *length;
+    if skips(k, factor, block.score, n, scores) {
+        return Turn::On(Counts {
+            evaluated: counts.evaluated,
+            skipped: counts.skipped + 1,
+        });
+    }
+    let first = block.start as usize;
+    let end = least(block.end, postings.len());
+    probe_postings(
+        sieve,
+        asked,
+        weights,
+        components,
+        values,
+        k,
+        postings,
+        first,
+        end,
+        length,
+        packed,
+        scores,
+        visits,
+        counts,
+    )
+}
+
+// A number at a place, or 0 where there is none.
+fn offset_at(offsets: &[u64], at: usize) -> u64
+    ensures { λ r. ⌜ r ≡ getD (now (offsets .entry)) at 0 ⌝ }
+{
+    if at < offsets.len() { offsets[at] } else { 0 }
+}
+
+// A score at a place, or a NaN where there is none: with it no block is skipped.
+fn dot_at(dots: &[f32], at: usize) -> f32
+    ensures { λ r. ⌜ r ≡ getD (now (dots .entry)) at nan ⌝ }
+{
+    if at < dots.len() { dots[at] } else { 0.0 / 0.0 }
+}
+
+// The end of a block is the offset after its own; the last number of all has none after it.
+fn end_at(offsets: &[u64], at: usize) -> u64
+    ensures { λ r. ⌜ r ≡ getD (now (offsets .entry)) (at + 1) 0 ⌝ }
+{
+    if at < offsets.len() {
+        offset_at(offsets, at + 1)
+    } else {
+        0
+    }
+}
+
+// What a block's turn needs to know of it.
+fn block_at(offsets: &[u64], dots: &[f32], number: BlockNumber) -> Block
+    ensures { λ r. ⌜ r ≡ blockAt (now (offsets .entry)) (now (dots .entry)) (number .0) ⌝ }
+{
+    let at = number.0 as usize;
+    let score = dot_at(dots, at);
+    let start = offset_at(offsets, at);
+    let end = end_at(offsets, at);
+    Block {
+        score: score,
+        start: start,
+        end: end,
+    }
+}
+
+// The number of the block whose turn it is: the order's, as far as it goes.
+fn number_at(order: &[u64], turn: u64) -> BlockNumber
+    ensures { λ r. ⌜ r .0 ≡ getD (now (order .entry)) turn turn ⌝ }
+{
+    let at = turn as usize;
+    if at < order.len() {
+        return BlockNumber(order[at]);
+    }
+    BlockNumber(turn)
+}
+
+// So many turns, one after another.
+fn sweep(
+    sieve: &[u8; 4096],
+    asked: &[u32],
+    weights: &[f32],
+    components: &[u32],
+    values: &[f32],
+    k: u64,
+    factor: f32,
+    postings: &[u64],
+    offsets: &[u64],
+    dots: &[f32],
+    order: &[u64],
+    turns: u64,
+    length: &mut u64,
+    packed: &mut [u64],
+    scores: &mut [f32],
+    visits: &mut [u8],
+) -> Turn
+    requires { ⌜ Ready (now sieve) (now asked) (now weights) (now components) (now values) (len (now visits)) ⌝ }
+    ensures { λ r. ⌜ turned r (lends (lent (now (length .exit)) (now (packed .exit)) (now (scores .exit))) (now (visits .exit)))
+        ≡ heldSweep k factor (rangeReading (now (asked .entry)) (now (weights .entry)) (now (components .entry)) (now (values .entry)))
+        (now (postings .entry)) (now (offsets .entry)) (now (dots .entry)) (listed (now (order .entry)) turns) (counted 0 0) (lends (lent (now (length .entry)) (now (packed .entry)) (now (scores .entry))) (now (visits .entry))) ⌝ }
+{
+    let mut c = Counts {
+        evaluated: 0,
+        skipped: 0,
+    };
+    let mut i = 0u64;
+    while i < turns {
+        let b = block_at(offsets, dots, number_at(order, i));
+        let t = take_turn(
+            sieve,
+            asked,
+            weights,
+            components,
+            values,
+            k,
+            factor,
+            postings,
+            b,
+            length,
+            packed,
+            scores,
+            visits,
+            c,
+        );
+        match t {
+            Turn::On(d) => {
+                c = d;
+            }
+            Turn::Stopped { reason, position } => {
+                return Turn::Stopped {
+                    reason: reason,
+                    position: position,
+                };
+            }
+        }
+        i += 1;
+    }
+    Turn::On(c)
+}
+
+// The answer to where the turns came.
+fn finish(t: Turn, kept: u64) -> Answer
+    ensures { λ r. ⌜ r ≡ answerOf t kept ⌝ }
+{
+    match t {
+        Turn::On(c) => Answer::Found {
+            kept: kept,
+            evaluated: c.evaluated,
+            skipped: c.skipped,
+        },
+        Turn::Stopped { reason, position } => Answer::Stopped {
+            reason: reason,
+            position: position,
+        },
+    }
+}
+
+// What must hold before the first turn: 10, 6, 12 (more kept than k), 4.
+fn admit(
+    asked: &[u32],
+    weights: &[f32],
+    components: &[u32],
+    values: &[f32],
+    k: u64,
+    length: u64,
+    packed: &[u64],
+    scores: &[f32],
+    visits: &[u8],
+) -> Verdict
+    ensures { λ r. ⌜ r ≡ firstOf (tests k (terms (now (asked .entry)) (now (weights .entry)) (now (components .entry)) (now (values .entry)))
+        (lends (lent length (now (packed .entry)) (now (scores .entry))) (now (visits .entry)))) ⌝ }
+{
+    if !documents::slices_hold(asked, weights) {
+        return Verdict::Refused(Refusal::WrongQuery);
+    }
+    if components.len() != values.len() {
+        return Verdict::Refused(Refusal::WrongDocuments);
+    }
+    if k < length {
+        return Verdict::Refused(Refusal::WrongKeptList);
+    }
+    let most = k as usize;
+    if (packed.len() < most) | (scores.len() < most) | (visits.len() <= components.len()) {
+        return Verdict::Refused(Refusal::BufferTooShort);
+    }
+    Verdict::Accepted
+}
+
+// So many blocks have their turns, in the order given as far as it goes, and then in number order: with no order, all of them. Refused with 10, 6, 12 and 4, in this order, where the query or the
+// terms cannot be read or there is no room; stopped by 13 or 14 at a posting. It takes time in proportion to the terms of the
+// postings evaluated, and a few steps for each posting passed over and each block skipped.
+pub fn probe(
+    asked: &[u32],
+    weights: &[f32],
+    k: u64,
+    factor: f32,
+    components: &[u32],
+    values: &[f32],
+    postings: &[u64],
+    offsets: &[u64],
+    dots: &[f32],
+    order: &[u64],
+    turns: u64,
+    length: &mut u64,
+    packed: &mut [u64],
+    scores: &mut [f32],
+    visits: &mut [u8],
+) -> Answer
+    ensures { λ r. ⌜ left r (lends (lent (now (length .exit)) (now (packed .exit)) (now (scores .exit))) (now (visits .exit)))
+        ≡ probed k factor (terms (now (asked .entry)) (now (weights .entry)) (now (components .entry)) (now (values .entry)))
+        (now (postings .entry)) (now (offsets .entry)) (now (dots .entry)) (listed (now (order .entry)) turns) (lends (lent (now (length .entry)) (now (packed .entry)) (now (scores .entry))) (now (visits .entry))) ⌝ }
+{
+    let n = *length;
+    let verdict = admit(
+        asked,
+        weights,
+        components,
+        values,
+        k,
+        n,
+        packed,
+        scores,
+        visits,
+    );
+    if let Verdict::Refused(reason) = verdict {
+        return Answer::Refused(reason);
+    }
+    let sieve = page::sieve_of(asked);
+    let bytes = components.len() + 1;
+    let t = sweep(
+        &sieve,
+        asked,
+        weights,
+        components,
+        values,
+        k,
+        factor,
+        postings,
+        offsets,
+        dots,
+        order,
+        turns,
+        length,
+        packed,
+        scores,
+        &mut visits[..bytes],
+    );
+    let kept = *length;
+    finish(t, kept)
+}

@@ -1,0 +1,146 @@
+-- What holds of the scores of an accepted list and an accepted query. Assumes nothing.
+use Prim.Native.Nat.{ℕ, zero, suc, _-_, _*_, _^_, _≤_, _<_}
+use native.Mathlib.Omega.{arith}
+use mathlib.Core.Path.{_≡_, subst}
+use mathlib.Core.Bool.{Bool, true, false, not, _&&_, cond}
+use mathlib.Core.List.{List, [], _∷_, _++_, map, zipWith}
+use lib.ListN.{length, getD, take, drop}
+use lib.Dec.{T, leb, eqb}
+use lib.Ieee.{Float, nan, binary32, isNan, mul}
+use lib.Ieee.Scale.{finite}
+use borrow.Author.Tests.{eqb-true}
+use Rattle.lists.specs.Lists.{EachOf, those, every, between, joined, withKey, strictlyRise}
+use Rattle.float32.specs.Bound.{inBound, Bounded}
+use Rattle.float32.specs.BoundLaws.{in-bound-bounded}
+use Rattle.float32.specs.Sums.{Within, within-finite, within-no-nan, read-product-within}
+use Rattle.documents.specs.Documents.{Term, dot}
+use Rattle.documents.specs.Laws.{both}
+use Rattle.quantizing.specs.Quantizing.{minimumAllowed, stepAllowed}
+use Rattle.quantizing.specs.Extremes.{F32}
+use Rattle.quantizing.specs.Promises.{read-back-bound}
+use Rattle.quantized_summary.specs.Layout.{Layout, Entry, entries, entriesAt, entriesOf, placeOf}
+use Rattle.quantized_summary.specs.WellFormed.{blocksHold, lengthsHold, offsetsHold, idsHold, boundsHold, wellFormed}
+use Rattle.quantized_summary.specs.Scores.{valueOf, addedBy, scoreOf}
+use Rattle.quantized_summary.specs.ReadBack.{termsOf, score-is-dot}
+use Rattle.quantized_summary.specs.Stays.{products-stay}
+
+-- what the types of the lent slices say: minimums, steps and query values are f32, and codes are bytes
+pub record Typed (l : Layout) (query : List Term) : Type 0 where
+  pub minimums : EachOf F32 (l .minimums)
+  pub steps : EachOf F32 (l .steps)
+  pub codes : EachOf (λ k. k ≤ 255) (l .codes)
+  pub values : EachOf (λ q. F32 (q .value)) query
+
+-- ---- the parts of refusal 9
+pub record Parts (l : Layout) : Type 0 where
+  pub rises : strictlyRise (l .components) ≡ true
+  pub as-many : length (l .minimums) ≡ length (l .steps)
+  pub minimums : every minimumAllowed (l .minimums) ≡ true
+  pub steps : every stepAllowed (l .steps) ≡ true
+
+pub parts : (postings : ℕ) (blockOffsets : List ℕ) (l : Layout) → wellFormed postings blockOffsets l ≡ true → Parts l
+unfolding wellFormed lengthsHold boundsHold
+parts postings blockOffsets l h =
+    let a = both (leb (length (l .minimums)) 65535 && leb postings 16777216) _ h in
+    let b = both (blocksHold postings (length (l .minimums)) blockOffsets) _ (a .1) in
+    let c = both (eqb (length (l .offsets)) (suc (length (l .components))) && (eqb (length (l .ids)) (length (l .codes)) && eqb (length (l .minimums)) (length (l .steps)))) _ (b .1) in
+    let d = both (strictlyRise (l .components)) _ (c .1) in
+    let e = both (offsetsHold (l .offsets) (length (l .ids))) _ (d .1) in
+    let f = both (idsHold (length (l .minimums)) (l .offsets) (l .ids)) _ (e .1) in
+    let g = both (every minimumAllowed (l .minimums)) (every stepAllowed (l .steps)) (f .1) in
+    let k = both (eqb (length (l .offsets)) (suc (length (l .components)))) _ (c .0) in
+    let m = both (eqb (length (l .ids)) (length (l .codes))) (eqb (length (l .minimums)) (length (l .steps))) (k .1) in
+    record { rises = d .0; as-many = eqb-true (length (l .minimums)) (length (l .steps)) (m .1); minimums = g .0; steps = g .1 }
+
+-- ---- each of a list, and of what is taken from it
+module _ {A : Type 0} (P : A → Type 0) where
+  each-at : (xs : List A) (d : A) (i : ℕ) → i < length xs → EachOf P xs → P (getD xs i d)
+  each-at [] d i h e = let z : ⊥ = omega arith in absurd z
+  each-at (x ∷ xs) d zero h e = e .0
+  each-at (x ∷ xs) d (suc i) h e = each-at xs d i (omega arith) (e .1)
+
+  each-drop : (n : ℕ) (xs : List A) → EachOf P xs → EachOf P (drop n xs)
+  each-drop zero xs e = e
+  each-drop (suc n) [] e = tt
+  each-drop (suc n) (x ∷ xs) e = each-drop n xs (e .1)
+
+  each-take : (n : ℕ) (xs : List A) → EachOf P xs → EachOf P (take n xs)
+  each-take zero xs e = tt
+  each-take (suc n) [] e = tt
+  each-take (suc n) (x ∷ xs) e = (e .0, each-take n xs (e .1))
+
+  each-part : (os : List ℕ) (xs : List A) (i : ℕ) → EachOf P xs → EachOf P (getD (between os xs) i [])
+  each-part [] xs i e = tt
+  each-part (a ∷ []) xs i e = tt
+  each-part (a ∷ b ∷ os) xs zero e = each-take (b - a) (drop a xs) (each-drop a xs e)
+  each-part (a ∷ b ∷ os) xs (suc i) e = each-part (b ∷ os) xs i e
+
+  each-those : (p : A → Bool) (xs : List A) → EachOf P xs → EachOf P (those p xs)
+  each-those p [] e = tt
+  each-those p (x ∷ xs) e = go (p x) (each-those p xs (e .1))
+    where
+      go : (b : Bool) → EachOf P (those p xs) → EachOf P (cond b (x ∷ those p xs) (those p xs))
+      go true i = (e .0, i)
+      go false i = i
+
+every-at : (p : Float → Bool) (xs : List Float) (i : ℕ) → i < length xs → every p xs ≡ true → p (getD xs i nan) ≡ true
+every-at p [] i h e = let z : ⊥ = omega arith in absurd z
+every-at p (x ∷ xs) zero h e = both (p x) (every p xs) e .0
+every-at p (x ∷ xs) (suc i) h e = every-at p xs i (omega arith) (both (p x) (every p xs) e .1)
+
+codes-each : (ids codes : List ℕ) → EachOf (λ k. k ≤ 255) codes → EachOf (λ e. e .code ≤ 255) (entries ids codes)
+unfolding entries zipWith
+codes-each [] codes e = tt
+codes-each (i ∷ ids) [] e = tt
+codes-each (i ∷ ids) (k ∷ codes) e = (e .0, codes-each ids codes (e .1))
+
+module _ (postings : ℕ) (blockOffsets : List ℕ) (l : Layout) (query : List Term) (accepted : wellFormed postings blockOffsets l ≡ true) (allowed : every (λ q. inBound (q .value)) query ≡ true) (typed : Typed l query) (s : ℕ) (below : s < length (l .minimums)) where
+  entries-each : (c : ℕ) → EachOf (λ e. e .code ≤ 255) (entriesOf l c)
+  unfolding entriesAt
+  entries-each c = go (eqb (getD (l .components) (placeOf c (l .components)) (suc c)) c)
+    where
+      go : (b : Bool) → EachOf (λ e. e .code ≤ 255) (cond b (getD (between (l .offsets) (entries (l .ids) (l .codes))) (placeOf c (l .components)) []) [])
+      go true = each-part (λ e. e .code ≤ 255) (l .offsets) (entries (l .ids) (l .codes)) (placeOf c (l .components)) (codes-each (l .ids) (l .codes) (typed .codes))
+      go false = tt
+
+  added-each : (q : Term) → Bounded (q .value) → EachOf (Within (1 * 2 ^ 222)) (addedBy l s q)
+  added-each q b = go (withKey (λ e. e .summary) s (entriesOf l (q .component))) (each-those (λ e. e .code ≤ 255) (λ e. eqb (e .summary) s) (entriesOf l (q .component)) (entries-each (q .component)))
+    where
+      own : Parts l
+      own = parts postings blockOffsets l accepted
+
+      go : (es : List Entry) → EachOf (λ e. e .code ≤ 255) es → EachOf (Within (1 * 2 ^ 222)) (map (λ e. mul binary32 (valueOf l s e) (q .value)) es)
+      go [] h = tt
+      go (e ∷ es) h = (
+        read-product-within (valueOf l s e) (q .value)
+            (read-back-bound (getD (l .minimums) s nan) (getD (l .steps) s nan) (e .code) (each-at F32 (l .minimums) nan s below (typed .minimums)) (each-at F32 (l .steps) nan s (subst (λ n. s < n) (own .as-many) below) (typed .steps))
+            (every-at minimumAllowed (l .minimums) s below (own .minimums)) (every-at stepAllowed (l .steps) s (subst (λ n. s < n) (own .as-many) below) (own .steps)) (h .0))
+            b,
+        go es (h .1),
+      )
+
+  all-each : (qs : List Term) → EachOf (λ q. F32 (q .value)) qs → every (λ q. inBound (q .value)) qs ≡ true → EachOf (Within (1 * 2 ^ 222)) (joined (map (addedBy l s) qs))
+  all-each [] f h = tt
+  all-each (q ∷ qs) f h =
+      let a = both (inBound (q .value)) (every (λ q. inBound (q .value)) qs) h in
+      append (addedBy l s q) (joined (map (addedBy l s) qs)) (added-each q (in-bound-bounded (q .value) (f .0) (a .0))) (all-each qs (f .1) (a .1))
+    where
+      append : (xs ys : List Float) → EachOf (Within (1 * 2 ^ 222)) xs → EachOf (Within (1 * 2 ^ 222)) ys → EachOf (Within (1 * 2 ^ 222)) (xs ++ ys)
+      append [] ys e g = g
+      append (x ∷ xs) ys e g = (e .0, append xs ys (e .1) g)
+
+  -- at most 2 ^ 98, in units of 2 ^ -149
+  pub score-within : Within (1 * 2 ^ 247) (scoreOf l query s)
+  unfolding scoreOf
+  score-within = products-stay (joined (map (addedBy l s) query)) (all-each query (typed .values) allowed)
+
+  -- finite, and so never a NaN
+  pub score-finite : T (finite (scoreOf l query s))
+  score-finite = within-finite (1 * 2 ^ 247) (scoreOf l query s) score-within
+
+  pub score-no-nan : T (not (isNan (scoreOf l query s)))
+  score-no-nan = within-no-nan (1 * 2 ^ 247) (scoreOf l query s) score-within
+
+  -- the dot product of the query with the summary as it is read back
+  pub score-dot : scoreOf l query s ≡ dot query (termsOf l s)
+  score-dot = score-is-dot l (parts postings blockOffsets l accepted .rises) s query

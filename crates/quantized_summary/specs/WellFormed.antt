@@ -1,0 +1,45 @@
+-- What refusal 9 asks of a list to be searched. Document 01, "Numbers" and "Numbered refusals".
+use Prim.Native.Nat.{ℕ, suc}
+use mathlib.Core.Bool.{Bool, _&&_, _||_}
+use mathlib.Core.List.{List}
+use lib.ListN.{length}
+use lib.Dec.{leb, ltb, eqb}
+use lib.Ieee.{Float}
+use Rattle.lists.specs.Lists.{every, firstOr, lastOr, between, neverFalls, strictlyRise}
+use Rattle.quantizing.specs.Quantizing.{minimumAllowed, stepAllowed}
+use Rattle.quantized_summary.specs.Layout.{Layout}
+
+abbrev pub summaryLimit : ℕ
+summaryLimit = 65535
+
+abbrev pub postingLimit : ℕ
+postingLimit = 16777216
+
+-- one block offset more than blocks, never falling, the last one not past the postings; none is looked at when there are no summaries
+unfoldable pub blocksHold : ℕ → ℕ → List ℕ → Bool
+blocksHold postings blocks os = eqb blocks 0 || (eqb (length os) (suc blocks) && (neverFalls os && leb (lastOr 0 os) postings))
+
+-- arrays that belong together are equally long; there is one component offset more than components
+unfoldable pub lengthsHold : Layout → Bool
+lengthsHold l = eqb (length (l .offsets)) (suc (length (l .components))) && (eqb (length (l .ids)) (length (l .codes)) && eqb (length (l .minimums)) (length (l .steps)))
+
+-- component offsets start at 0, never fall and end at the entry count
+unfoldable pub offsetsHold : List ℕ → ℕ → Bool
+offsetsHold os count = eqb (firstOr 1 os) 0 && (neverFalls os && eqb (lastOr 0 os) count)
+
+-- summary ids are below the summary count, and strictly rise within a component
+unfoldable pub idsHold : ℕ → List ℕ → List ℕ → Bool
+idsHold summaries os ids = every (λ i. ltb i summaries) ids && every strictlyRise (between os ids)
+
+unfoldable pub boundsHold : List Float → List Float → Bool
+boundsHold minimums steps = every minimumAllowed minimums && every stepAllowed steps
+
+unfoldable pub wellFormed : ℕ → List ℕ → Layout → Bool
+wellFormed postings blockOffsets l =
+    (leb (length (l .minimums)) summaryLimit && leb postings postingLimit)
+    && (blocksHold postings (length (l .minimums)) blockOffsets
+    && (lengthsHold l
+    && (strictlyRise (l .components)
+    && (offsetsHold (l .offsets) (length (l .ids))
+    && (idsHold (length (l .minimums)) (l .offsets) (l .ids)
+    && boundsHold (l .minimums) (l .steps))))))

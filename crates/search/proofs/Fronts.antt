@@ -1,0 +1,57 @@
+-- What is put at the front of a buffer, and turns by a list of blocks. Assumes nothing.
+use Prim.Native.Nat.{ℕ, zero, suc, _+_, _≤_, _<_}
+use native.Mathlib.Omega.{arith}
+use mathlib.Core.Path.{_≡_, refl, sym, ap, _∙_}
+use mathlib.Core.List.{List, [], _∷_, _++_, map}
+use lib.ListN.{length, getD, take, drop, length-append, length-take, length-drop}
+use lib.Seq.{take-all, take-at, length-take-le}
+use Rattle.lists.specs.Lists.{from}
+use Rattle.quantized_summary.specs.Scores.{putIn}
+use Rattle.probing.specs.Probed.{listed}
+
+-- ---- what is put at the front of a buffer is its front
+pub put-all : {A : Type 0} (xs buffer : List A) → length xs ≤ length buffer → putIn xs buffer ≡ xs ++ drop (length xs) buffer
+put-all xs buffer h = rw (take-all (length buffer) xs h)
+
+pub front : {A : Type 0} (xs buffer ys : List A) (n : ℕ) → length xs ≡ n → n ≤ length buffer → ys ≡ putIn xs buffer → take n ys ≡ xs
+front xs buffer ys n e h p = ap (take n) (p ∙ put-all xs buffer (rw e h)) ∙ take-at xs (drop (length xs) buffer) n e
+
+pub put-front : {A : Type 0} (xs buffer ys : List A) (n : ℕ) → length xs ≡ n → n ≤ length buffer → ys ≡ xs → ys ++ drop n buffer ≡ putIn xs buffer
+put-front xs buffer ys n e h p = rw (p, ← e) (sym (put-all xs buffer (rw e h)))
+
+put-length : {A : Type 0} (xs buffer : List A) → length (putIn xs buffer) ≡ length buffer
+put-length xs buffer =
+    omega (arith, length-append (take (length buffer) xs) (drop (length xs) buffer), length-take (length buffer) xs, length-drop (length xs) buffer)
+
+pub put-room : {A : Type 0} (xs buffer ys : List A) (n : ℕ) → n ≤ length buffer → ys ≡ putIn xs buffer → n ≤ length ys
+put-room xs buffer ys n h p = let z : length ys ≡ length buffer = ap length p ∙ put-length xs buffer in omega arith
+
+pub front-length : {A : Type 0} (xs buffer ys : List A) (n : ℕ) → n ≤ length buffer → ys ≡ putIn xs buffer → n ≡ length (take n ys)
+front-length xs buffer ys n h p = sym (length-take-le n ys (put-room xs buffer ys n h p))
+
+-- ---- the turns
+map-same : (bs : List ℕ) → map (λ i. getD [] i i) bs ≡ bs
+map-same [] = refl
+map-same (b ∷ bs) = ap (λ l. b ∷ l) (map-same bs)
+
+-- with no order the blocks have their turns in number order
+pub none-listed : (n : ℕ) → listed [] n ≡ from 0 n
+none-listed n = map-same (from 0 n)
+
+listed-by : (g : ℕ → ℕ) (bs : List ℕ) (a : ℕ) → ((j : ℕ) → j < length bs → g (a + j) ≡ getD bs j 0) → map g (from a (length bs)) ≡ bs
+listed-by g [] a h = refl
+listed-by g (b ∷ bs) a h =
+    let z : a + 0 ≡ a = omega arith in
+    let x : g a ≡ b = ap g (sym z) ∙ h 0 (omega arith) in
+    let y = listed-by g bs (suc a) (λ j l. let w : suc a + j ≡ a + suc j = omega arith in ap g w ∙ h (suc j) (omega arith)) in
+    cc
+
+there : (l : List ℕ) (j c d : ℕ) → j < length l → getD l j c ≡ getD l j d
+there [] j c d h = absurd (omega arith)
+there (x ∷ l) zero c d h = refl
+there (x ∷ l) (suc j) c d h = there l j c d (omega arith)
+
+pub all-listed : (bs : List ℕ) (n : ℕ) → length bs ≡ n → listed bs n ≡ bs
+all-listed bs n e =
+    ap (λ m. map (λ i. getD bs i i) (from 0 m)) (sym e)
+    ∙ listed-by (λ i. getD bs i i) bs 0 (λ j l. let w : 0 + j ≡ j = omega arith in rw w (there bs j j 0 l))

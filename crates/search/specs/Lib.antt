@@ -1,0 +1,11 @@
+pub mod Order
+pub mod Keys
+pub mod Searched
+pub mod Trace
+pub mod Told
+pub mod Moments
+pub mod InOrder
+pub mod Once
+pub mod Promises
+pub mod Scores
+pub mod Worked

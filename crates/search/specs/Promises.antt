@@ -1,0 +1,198 @@
+-- What a search promises, told by its story, with no mention of how it goes about it. Assumes nothing.
+use Prim.Native.Nat.{ℕ, _+_, _-_, _≤_, _<_}
+use mathlib.Core.Path.{_≡_, refl, sym, ap, _∙_, subst}
+use mathlib.Core.Bool.{Bool, true, false, not, _&&_, _||_, cond, true≢false}
+use mathlib.Core.List.{List, [], _∷_, _++_, map, List·Permᴰ}
+use lib.ListN.{length, getD, take}
+use lib.Seq.{length-take-le}
+use lib.Ieee.{Float, nan, binary32, lt, mul}
+use lib.Dec.{eqb, leb, ltb}
+use borrow.Author.Tests.{eqb-true, eq-eqb, ne-eqb, leb-true, leb-false, ltb-true, le-leb, not-false}
+use native.Mathlib.Omega.{arith}
+use Rattle.lists.specs.Lists.{every, from, part}
+use Rattle.lists.specs.Sorted.{InOrder, sort-in-order, sort-permutes}
+use Rattle.refusal.specs.declared.Verdict.the-variants.{Accepted}
+use Rattle.refusal.specs.First.{firstOf, Faultless, faultless}
+use Rattle.float32.specs.Order.{atMost}
+use Rattle.packing.specs.Packing.{startOf, lengthOf}
+use Rattle.page.specs.Reading.{reading}
+use Rattle.kept_list.specs.Lent.{Lent, entries, places}
+use Rattle.kept_list.specs.Laid.{length-beside, entries-written}
+use Rattle.kept_list.specs.Push.{isNumber, sound, wellKept}
+use Rattle.probing.specs.Ranges.{ofPage, rangeReading}
+use Rattle.probing.specs.Probed.{Terms, readIn, Lends, bytesOf, restOf, laid, opened}
+use Rattle.search.specs.Order.{scoreAt, noLater, byScore}
+use Rattle.search.specs.Searched.{Question, givenFor, swept, room, tests}
+use mathlib.Core.Logic.{_↔_}
+use Rattle.lists.specs.Lists.{among}
+use Rattle.refusal.specs.declared.Refusal.{Refusal}
+use Rattle.kept_list.specs.declared.Scored.{Scored}
+use Rattle.kept_list.specs.Keep.{keepAll, kBest, inOrder}
+use Rattle.kept_list.specs.Best.{k-best}
+use Rattle.kept_list.specs.Order.{both}
+use Rattle.kept_list.specs.Entry.{better, better-order}
+use Rattle.probing.specs.declared.RangeReading.{RangeReading}
+use Rattle.probing.specs.declared.RangeReading.the-variants.{ReachesPast, Breaks, Score}
+use Rattle.probing.specs.Probing.{Place, ofReading, packedAt, worst, Given, State, Outcome, passed, stopped, found, outcome, startAt, Reached, goesOn, stopsAt, skips, positions, sweep, left}
+use Rattle.search.specs.Trace.{Event, at, Turn, skippedBlock, probedBlock, events, turns, entriesOf, startsOf, positionOf, blockOf, eventsOf, skippedIn, distinct, marked, after}
+use Rattle.search.specs.Told.{sweep-told, marked-events}
+use Rattle.search.specs.Moments.{EventRight, TurnRight, event-right, turn-right}
+use Rattle.search.specs.InOrder.{events-in-order, events-all, turns-in-order, turns-all, stopsIn, no-stop-before, no-stop-on, stop-is-last}
+use Rattle.search.specs.Once.{HasBytes, all-right, fresh, all-different, marked-at}
+
+pub record Promises (g : Given) (bs : List ℕ) (s : State) (r : Reached) : Type 0 where
+  -- what happened: the turns, each skipped or probed, with what each posting of a probed block gave
+  pub story : List Turn
+  -- the blocks have their turns in the order given, all of them if nothing stops the search
+  pub in-order : map blockOf story ≡ take (length story) bs
+  pub all-blocks : (t : State) → r ≡ goesOn t → map blockOf story ≡ bs
+  -- a block is skipped exactly when k are kept at its turn and its score < factor x worst
+  pub skipped-when : (p : List Turn) (b : ℕ) (q : List Turn) → story ≡ p ++ (skippedBlock b ∷ q) → skips g (kBest better (g .k) (s .kept ++ entriesOf (eventsOf p))) b ≡ true
+  pub probed-when : (p : List Turn) (b : ℕ) (es : List Event) (q : List Turn) → story ≡ p ++ (probedBlock b es ∷ q) → skips g (kBest better (g .k) (s .kept ++ entriesOf (eventsOf p))) b ≡ false
+  -- the postings of a probed block are reached one by one in order, all of them if nothing stops the search
+  pub reached-in-order : (p : List Turn) (b : ℕ) (es : List Event) (q : List Turn) → story ≡ p ++ (probedBlock b es ∷ q) → map positionOf es ≡ take (length es) (positions g b)
+  pub reached-all : (p : List Turn) (b : ℕ) (es : List Event) (q : List Turn) → story ≡ p ++ (probedBlock b es ∷ q) → stopsIn es ≡ false → map positionOf es ≡ positions g b
+  pub goes-on : (p : List Turn) (b : ℕ) (es : List Event) (u : Turn) (q : List Turn) → story ≡ p ++ (probedBlock b es ∷ u ∷ q) → stopsIn es ≡ false
+  pub goes-through : (t : State) → r ≡ goesOn t → (p : List Turn) (b : ℕ) (es : List Event) (q : List Turn) → story ≡ p ++ (probedBlock b es ∷ q) → stopsIn es ≡ false
+  -- each gives what its visit byte and its reading say at that moment: passed if visited, else 13, 14 or its score
+  pub gives : (p : List Turn) (b : ℕ) (x : List Event) (i : Place) (o : Outcome) (y : List Event) (q : List Turn) → story ≡ p ++ (probedBlock b (x ++ (at i o ∷ y)) ∷ q)
+      → outcome g (marked (s .visits) (startsOf g (eventsOf p ++ x))) i ≡ o
+  -- the evaluated starts were unvisited at first, and no two are the same
+  pub unvisited : (n : ℕ) → among n (startsOf g (eventsOf story)) ≡ true → (n < length (s .visits)) × (getD (s .visits) n 0 ≡ 0)
+  pub different : distinct (startsOf g (eventsOf story)) ≡ true
+  -- what is kept are the k best of the entries brought in and of all evaluated
+  pub keeps-best : (left r) .kept ≡ kBest better (g .k) (s .kept ++ entriesOf (eventsOf story))
+  -- the evaluated starts are marked 1, and no other byte changes
+  pub marks : (left r) .visits ≡ marked (s .visits) (startsOf g (eventsOf story))
+  pub marks-at : (n : ℕ) → n < length (s .visits) → getD ((left r) .visits) n 0 ≡ cond (among n (startsOf g (eventsOf story))) 1 (getD (s .visits) n 0)
+  -- the counts are those of the story
+  pub counts-evaluated : (left r) .evaluated ≡ s .evaluated + length (entriesOf (eventsOf story))
+  pub counts-skipped : (left r) .skipped ≡ s .skipped + skippedIn story
+  -- a search that stops, stops at the last posting it reached
+  pub stops-last : (n : Refusal) (i : Place) (t : State) → r ≡ stopsAt n i t → (p : List Turn) × (b : ℕ) × (x : List Event) × (story ≡ p ++ (probedBlock b (x ++ (at i (stopped n) ∷ [])) ∷ []))
+
+module _ (g : Given) (bs : List ℕ) (s : State) (sorted : inOrder better (s .kept) ≡ true) (few : length (s .kept) ≤ g .k) (bytes : HasBytes g (s .visits)) where
+  kept-after : (p : List Turn) → (after g s p) .kept ≡ kBest better (g .k) (s .kept ++ entriesOf (eventsOf p))
+  kept-after p = k-best better better-order (g .k) (s .kept) (entriesOf (eventsOf p)) sorted few
+
+  pub sweep-promises : Promises g bs s (sweep g bs s)
+  sweep-promises = record {
+    story = turns g bs s;
+    in-order = turns-in-order g bs s;
+    all-blocks = turns-all g bs s;
+    skipped-when = λ p b q e. subst (λ l. skips g l b ≡ true) (kept-after p) (turn-right g bs s p (skippedBlock b) q e);
+    probed-when = λ p b es q e. subst (λ l. skips g l b ≡ false) (kept-after p) (turn-right g bs s p (probedBlock b es) q e .0);
+    reached-in-order = λ p b es q e. subst (λ l. map positionOf l ≡ take (length l) (positions g b)) (sym (turn-right g bs s p (probedBlock b es) q e .1)) (events-in-order g (positions g b) ((after g s p) .visits));
+    reached-all = λ p b es q e h. let k = turn-right g bs s p (probedBlock b es) q e .1 in ap (map positionOf) k ∙ events-all g (positions g b) ((after g s p) .visits) (ap stopsIn (sym k) ∙ h);
+    goes-on = λ p b es u q e. no-stop-before g bs s p (probedBlock b es) u q e;
+    goes-through = λ t o p b es q e. no-stop-on g bs s t o p (probedBlock b es) q e;
+    gives = λ p b x i o y q e.
+        subst (λ l. outcome g l i ≡ o) (sym (marked-events g (s .visits) (eventsOf p) x))
+        (event-right g (positions g b) ((after g s p) .visits) x (at i o) y (sym (turn-right g bs s p (probedBlock b (x ++ (at i o ∷ y))) q e .1)));
+    unvisited = fresh g (s .visits) (eventsOf (turns g bs s)) bytes (all-right g bs s);
+    different = all-different g (s .visits) (eventsOf (turns g bs s)) bytes (all-right g bs s);
+    keeps-best = ap (λ (t : State). t .kept) (sweep-told g bs s) ∙ kept-after (turns g bs s);
+    marks = ap (λ (t : State). t .visits) (sweep-told g bs s);
+    marks-at = λ n h. ap (λ (t : State). getD (t .visits) n 0) (sweep-told g bs s) ∙ marked-at (s .visits) (startsOf g (eventsOf (turns g bs s))) n h;
+    counts-evaluated = ap (λ (t : State). t .evaluated) (sweep-told g bs s);
+    counts-skipped = ap (λ (t : State). t .skipped) (sweep-told g bs s);
+    stops-last = λ n i t e. stop-is-last g bs s t n i e;
+  }
+
+-- ---- the two tests in plain words
+-- skipped exactly when k are kept and score < factor x worst kept score
+pub skips-iff : (g : Given) (kept : List Scored) (b : ℕ)
+    → (skips g kept b ≡ true) ↔ ((length kept ≡ g .k) × (lt (getD (g .blockScores) b nan) (mul binary32 (g .factor) (worst kept)) ≡ true))
+skips-iff g kept b = (
+  (λ h. let s = both (eqb (length kept) (g .k)) (lt (getD (g .blockScores) b nan) (mul binary32 (g .factor) (worst kept))) h in (eqb-true (length kept) (g .k) (s .0), s .1)),
+  (λ h. let e : eqb (length kept) (g .k) ≡ true = eq-eqb (length kept) (g .k) (h .0) in rw (e, h .1)),
+)
+
+-- passed exactly when the byte of its start is not 0
+pub passed-iff : (g : Given) (visits : List ℕ) (i : Place) → (outcome g visits i ≡ passed) ↔ (getD visits (startAt g i) 0 ≡ 0 → ⊥)
+passed-iff g visits i = (there, back)
+  where
+    clash : (r : RangeReading) → ofReading (packedAt g i) r ≡ passed → ⊥
+    clash ReachesPast h = let z : _≡_ {A = ℕ} 0 1 = cc in omega arith
+    clash Breaks h = let z : _≡_ {A = ℕ} 0 1 = cc in omega arith
+    clash (Score x) h = let z : _≡_ {A = ℕ} 0 1 = cc in omega arith
+
+    there : outcome g visits i ≡ passed → getD visits (startAt g i) 0 ≡ 0 → ⊥
+    there h z = let e : eqb (getD visits (startAt g i) 0) 0 ≡ true = eq-eqb (getD visits (startAt g i) 0) 0 z in clash (g .read (packedAt g i)) (rw e at h)
+
+    back : (getD visits (startAt g i) 0 ≡ 0 → ⊥) → outcome g visits i ≡ passed
+    back h = let e : eqb (getD visits (startAt g i) 0) 0 ≡ false = ne-eqb (getD visits (startAt g i) 0) 0 h in rw e
+
+-- ---- an accepted search keeps all of this, in whatever order its blocks have their turns
+kept-sound : (k : ℕ) (m : Lent) → wellKept k m ≡ true → (inOrder better (entries m) ≡ true) × (length (entries m) ≤ k)
+unfolding wellKept
+kept-sound k m w =
+    let a = both (leb (m .size) k && places (m .size) m) (sound (entries m)) w in
+    let b = both (leb (m .size) k) (places (m .size) m) (a .0) in
+    let p = both (leb (m .size) (length (m .packed))) (leb (m .size) (length (m .scores))) (b .1) in
+    let n = length-beside (m .size) (m .packed) (m .scores) (leb-true (m .size) (length (m .packed)) (p .0)) (leb-true (m .size) (length (m .scores)) (p .1)) in
+    let l = leb-true (m .size) k (b .0) in
+    (both (inOrder better (entries m)) (every isNumber (entries m)) (a .1) .0, omega arith)
+
+-- a range that has a score ends within the terms
+score-ends : (t : Terms) (p : ℕ) (x : Float) → readIn t p ≡ Score x → startOf p ≤ length (t .components)
+unfolding rangeReading
+score-ends t p x h = at (leb (startOf p + lengthOf p) (length (t .components))) refl h
+  where
+    at : (b : Bool) → leb (startOf p + lengthOf p) (length (t .components)) ≡ b
+        → cond b (ofPage (reading (t .queryComponents) (t .queryValues) (part (startOf p) (startOf p + lengthOf p - startOf p) (t .components)) (part (startOf p) (startOf p + lengthOf p - startOf p) (t .values)))) ReachesPast ≡ Score x → startOf p ≤ length (t .components)
+    at true e h = let z = leb-true (startOf p + lengthOf p) (length (t .components)) e in omega arith
+    at false e h = let z : _≡_ {A = ℕ} 0 1 = cc in omega arith
+
+module _ (q : Question) (l : Lends) (b : Bool) (accepted : firstOf (tests q l b) ≡ Accepted) where
+  faults : Faultless (tests q l b)
+  faults = faultless (tests q l b) accepted
+
+  kept-well : (inOrder better (entries (l .kept)) ≡ true) × (length (entries (l .kept)) ≤ q .k)
+  kept-well = kept-sound (q .k) (l .kept) (not-false (wellKept (q .k) (l .kept)) (faults .1 .1 .1 .1 .0))
+
+  has-bytes : HasBytes (givenFor q) (bytesOf (q .terms) (l .visits))
+  has-bytes i x e =
+      let r = both (places (q .k) (l .kept)) (ltb (length (q .terms .components)) (length (l .visits)) && b) (not-false (room q l b) (faults .1 .1 .1 .1 .1 .0)) in
+      let v = ltb-true (length (q .terms .components)) (length (l .visits)) (both (ltb (length (q .terms .components)) (length (l .visits))) b (r .1) .0) in
+      let s = score-ends (q .terms) (packedAt (givenFor q) i) x e in
+      let m : length (q .terms .components) + 1 ≤ length (l .visits) = omega arith in
+      omega (arith, length-take-le (length (q .terms .components) + 1) (l .visits) m)
+
+  pub search-promises : (blocks : List ℕ) → Promises (givenFor q) blocks (opened (q .terms) l) (swept q blocks l)
+  search-promises blocks = sweep-promises (givenFor q) blocks (opened (q .terms) l) (kept-well .0) (kept-well .1) has-bytes
+
+  -- the kept list where it lies at exit: the k best of the entries it began with and of all evaluated
+  pub kept-at-exit : (blocks : List ℕ) → entries ((laid (q .terms) l (swept q blocks l)) .lent .kept) ≡ kBest better (q .k) (entries (l .kept) ++ entriesOf (eventsOf (search-promises blocks .story)))
+  kept-at-exit blocks = laid-kept (swept q blocks l) ∙ search-promises blocks .keeps-best
+    where
+      laid-kept : (r : Reached) → entries ((laid (q .terms) l r) .lent .kept) ≡ (left r) .kept
+      laid-kept (goesOn s) = entries-written (s .kept) (l .kept)
+      laid-kept (stopsAt r i s) = entries-written (s .kept) (l .kept)
+
+  -- the bytes of the starts as the story leaves them, and those past them as they were
+  pub visits-at-exit : (blocks : List ℕ) → (laid (q .terms) l (swept q blocks l)) .lent .visits ≡ (left (swept q blocks l)) .visits ++ restOf (q .terms) (l .visits)
+  visits-at-exit blocks = laid-visits (swept q blocks l)
+    where
+      laid-visits : (r : Reached) → (laid (q .terms) l r) .lent .visits ≡ (left r) .visits ++ restOf (q .terms) (l .visits)
+      laid-visits (goesOn s) = refl
+      laid-visits (stopsAt r i s) = refl
+
+-- ---- the probing order of a sorted search
+pub order-permutes : (xs : List Float) → List·Permᴰ (byScore xs) (from 0 (length xs))
+unfolding byScore
+order-permutes xs = sort-permutes (noLater xs) (from 0 (length xs))
+
+-- one of two blocks may go first
+either : (xs : List Float) (a b : ℕ) → noLater xs a b ≡ false → noLater xs b a ≡ true
+either xs a b h = go (atMost (scoreAt xs a) (scoreAt xs b)) (atMost (scoreAt xs b) (scoreAt xs a)) (leb a b) refl h
+  where
+    go : (i j k : Bool) → leb a b ≡ k → (not i || (j && k)) ≡ false → (not j || (i && leb b a)) ≡ true
+    go false j k e h = absurd (true≢false h)
+    go true false k e h = refl
+    go true true true e h = absurd (true≢false h)
+    go true true false e h = le-leb b a (omega (arith, leb-false a b e))
+
+pub order-sorted : (xs : List Float) → InOrder (noLater xs) (byScore xs)
+unfolding byScore
+order-sorted xs = sort-in-order (noLater xs) (either xs) (from 0 (length xs))

@@ -1,0 +1,11 @@
+pub mod Summaries
+pub mod Answers
+pub mod Steps
+pub mod Each
+pub mod Counts
+pub mod Finishing
+pub mod Left
+pub mod Whole
+pub mod Promises
+pub mod Once
+pub mod Cases
