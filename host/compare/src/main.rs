@@ -224,7 +224,11 @@ fn case_any_search(r: &mut Random, slip: Slip) -> Option<bool> {
     let expected = search(slip, &input, &mut b);
     let answer = ours::search(&input, &mut ours);
     let answer_again = ours::search(&input, &mut again);
-    Some(answer == expected && same_buffers(&ours, &b) && answer == answer_again && same_buffers(&ours, &again))
+    let ok = answer == expected && same_buffers(&ours, &b) && answer == answer_again && same_buffers(&ours, &again);
+    if !ok && std::env::var("SHOW").is_ok() {
+        println!("given {input:?}\nexpected {expected:?} {b:?}\nours {answer:?} {ours:?}\nagain {answer_again:?} {again:?}");
+    }
+    Some(ok)
 }
 
 fn cut<T: Clone + Default>(r: &mut Random, v: &mut Vec<T>) {
