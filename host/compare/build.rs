@@ -1,8 +1,9 @@
-//! Links the proved library; `MERINO_LIB` names the folder that has libmerino.a.
+//! Whether the original's source is here, and whether the library can build lists yet.
 fn main() {
-    let folder = std::env::var("MERINO_LIB").unwrap_or_else(|_| "../../target/staticlib".into());
-    println!("cargo:rustc-link-search=native={folder}");
-    println!("cargo:rustc-link-lib=static=merino");
-    println!("cargo:rerun-if-env-changed=MERINO_LIB");
-    println!("cargo:rerun-if-changed={folder}/libmerino.a");
+    if std::env::var("DEP_ORIGINAL_SOURCE_PRESENT").is_ok() {
+        println!("cargo:rustc-cfg=source");
+    }
+    if std::env::var("DEP_MERINO_BUILDS").is_ok() {
+        println!("cargo:rustc-cfg=builds");
+    }
 }

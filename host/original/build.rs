@@ -122,6 +122,7 @@ fn main() {
         return;
     };
     println!("cargo:rustc-cfg=source");
+    println!("cargo:present=1");
     let mut all = String::new();
     for (name, file) in [
         ("configurations", "configurations.rs"),

@@ -49,7 +49,7 @@ fn document_count(offsets: usize) -> u64
 }
 
 // How many of the listed centroids are used: fixed blocking takes none.
-fn centroids_taken(blocking: BlockingStrategy, centroids: usize) -> usize
+pub fn centroids_taken(blocking: BlockingStrategy, centroids: usize) -> usize
     ensures { λ r. ⌜ r ≡ takenOf blocking centroids ⌝ }
 {
     match blocking {
@@ -73,14 +73,14 @@ fn documents_known(
 ) -> bool
     ensures { λ r. ⌜ r ≡ (offsetsHold (documents (now (offsets .entry)) (now (components .entry)) (now (values .entry))) && idsHold (count (now (offsets .entry))) (now (ids .entry) ++ now (centroids .entry))) ⌝ }
 {
-    if !documents::offsets_hold(offsets, components, values) {
+    if !document_checks::offsets_hold(offsets, components, values) {
         return false;
     }
     let count = document_count(offsets.len());
-    if !documents::ids_hold(count, ids) {
+    if !document_checks::ids_hold(count, ids) {
         return false;
     }
-    documents::ids_hold(count, centroids)
+    document_checks::ids_hold(count, centroids)
 }
 
 // Whether the terms of each listed document and centroid hold. One pass over their terms.
@@ -94,10 +94,10 @@ fn terms_hold(
 ) -> bool
     ensures { λ r. ⌜ r ≡ documentsHold dimension (documents (now (offsets .entry)) (now (components .entry)) (now (values .entry))) (now (ids .entry) ++ now (centroids .entry)) ⌝ }
 {
-    if !documents::documents_hold(dimension, offsets, components, values, ids) {
+    if !document_checks::documents_hold(dimension, offsets, components, values, ids) {
         return false;
     }
-    documents::documents_hold(dimension, offsets, components, values, centroids)
+    document_checks::documents_hold(dimension, offsets, components, values, centroids)
 }
 
 // Whether the ranges of the listed documents can be packed. One pass over the ids, which leaves at none of them.

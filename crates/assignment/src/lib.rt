@@ -1,9 +1,14 @@
 // Which centroid takes a document: by all of its terms and the first greatest score above 0, or by its largest terms and the last
 // greatest score. Scores come through the centroids' index. Nothing is assumed of the slices.
 ghost use mathlib.Core.Path.{_≡_};
-ghost use lib.ListN.{length};
-ghost use Rattle.documents.specs.Documents.{documents, terms};
+ghost use mathlib.Core.List.{map};
+ghost use Prim.Native.Nat.{min};
+ghost use lib.ListN.{length, take};
+ghost use lib.Seq.{sets};
+ghost use Rattle.documents.specs.Documents.{documents, terms, paired, largest};
+ghost use Rattle.documents.specs.TermKeys.{termKey};
 ghost use Rattle.assignment.specs.Scored.{scoresOf};
+ghost use Rattle.assignment.specs.Keys.{keysOf};
 ghost use Rattle.assignment.specs.Nearest.{ifGreater, ifNoLess, firstAbove, lastNoLess};
 use names::DocumentId;
 
@@ -110,7 +115,7 @@ pub fn nearest_to(
         (terms (documents (now (offsets .entry)) (now (components .entry)) (now (values .entry))) (id .0)))
         × (r .0 ≡ firstAbove (now (centroids .entry)) (now (scores .exit))) ⌝ }
 {
-    counting::clear_values(scores);
+    clearing::clear_f32(scores);
     let p = centroid_index::places_of(offsets, components, values, id);
     let from = p.from;
     let to = p.to;
@@ -123,4 +128,70 @@ pub fn nearest_to(
         scores,
     );
     first_above_zero(centroids, scores)
+}
+
+// The smaller of two numbers.
+fn smaller(a: usize, b: usize) -> usize
+    ensures { λ r. ⌜ r ≡ min a b ⌝ }
+{
+    if a < b { a } else { b }
+}
+
+// Writes the key of each term to the front of a slice; those that find no place are left out.
+fn write_keys(components: &[u32], values: &[f32], keys: &mut [u64])
+    ensures { λ _. ⌜ now (keys .exit) ≡ sets (now (keys .entry)) 0 (map termKey (paired (now (components .entry)) (now (values .entry)))) ⌝ }
+{
+    let mut i = 0usize;
+    while i < components.len() {
+        if values.len() <= i {
+            return;
+        }
+        let key = term_keys::term_key(components[i], values[i]);
+        counting::store(keys, i, key);
+        i += 1;
+    }
+}
+
+// Leaves the keys of the terms, the largest first, at the front of a slice, and answers how many these are; terms that find no place
+// are left out.
+fn sort_keys(components: &[u32], values: &[f32], keys: &mut [u64]) -> usize
+    ensures { λ r. ⌜ (r ≡ min (length (paired (now (components .entry)) (now (values .entry)))) (length (now (keys .entry))))
+        × (now (keys .exit) ≡ keysOf (now (keys .entry)) (paired (now (components .entry)) (now (values .entry)))) ⌝ }
+{
+    write_keys(components, values, keys);
+    let terms = documents::term_count(components, values);
+    let n = smaller(terms, keys.len());
+    sort::sort(&mut keys[..n]);
+    n
+}
+
+// The centroid that takes a document by so many of its largest terms, the largest first; another document's id where none competes.
+// The terms' keys stay in their slice, and the scores by slot in theirs; a term whose key finds no place counts for nothing.
+pub fn nearly_to(
+    offsets: &[u64],
+    components: &[u32],
+    values: &[f32],
+    id: DocumentId,
+    cut: u64,
+    otherwise: DocumentId,
+    competing: &[u64],
+    starts: &[u64],
+    slots: &[u64],
+    weights: &[f32],
+    scores: &mut [f32],
+    keys: &mut [u64],
+) -> DocumentId
+    ensures { λ r. ⌜ (now (keys .exit) ≡ keysOf (now (keys .entry)) (terms (documents (now (offsets .entry)) (now (components .entry)) (now (values .entry))) (id .0)))
+        × (now (scores .exit) ≡ scoresOf (documents (now (starts .entry)) (now (slots .entry)) (now (weights .entry))) (length (now (scores .entry)))
+        (largest cut (take (length (now (keys .entry))) (terms (documents (now (offsets .entry)) (now (components .entry)) (now (values .entry))) (id .0)))))
+        × (r .0 ≡ lastNoLess (otherwise .0) (now (competing .entry)) (now (scores .exit))) ⌝ }
+{
+    clearing::clear_f32(scores);
+    let p = centroid_index::places_of(offsets, components, values, id);
+    let from = p.from;
+    let to = p.to;
+    let n = sort_keys(&components[from..to], &values[from..to], keys);
+    let m = smaller(cut as usize, n);
+    centroid_index::add_keys(starts, slots, weights, &keys[..m], scores);
+    last_greatest(otherwise, competing, scores)
 }

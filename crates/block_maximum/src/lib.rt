@@ -169,7 +169,7 @@ pub fn forget(keys: &[u64], places: &mut [u64])
 {
     let mut i = 0usize;
     while i < keys.len() {
-        let component = documents::component_of_term_key(keys[i]) as usize;
+        let component = term_keys::component_of_term_key(keys[i]) as usize;
         put(places, component, 0);
         i += 1;
     }

@@ -14,10 +14,10 @@ use Rattle.lists.specs.Groups.{RisesFrom, Against, less, same, more, against, r
 use Rattle.documents.specs.Documents.{Documents}
 use Rattle.sort.specs.Sorted.{sorted}
 use Rattle.assignment.specs.Nearest.{nearest, nearestOrItself, nearly}
-use Rattle.clustering.specs.Clusters.{Assigned, assigned, centroidOf, documentOf, assign, dissolved, reassign, exactly, approximately, survivors, clusters}
-use Rattle.clustering.specs.Ranks.{Among, rising-among}
-use Rattle.clustering.specs.Members.{each-among, nearest-among, itself-among, nearly-among, those-among}
-use Rattle.building.specs.Built.{Input, assignedBy}
+use Rattle.clusters.specs.Clusters.{Assigned, assigned, centroidOf, documentOf, assign, dissolved, reassign, exactly, approximately, survivors, clusters}
+use Rattle.clusters.specs.Ranks.{Among, rising-among}
+use Rattle.clusters.specs.Members.{each-among, nearest-among, itself-among, nearly-among, those-among}
+use Rattle.building.specs.Built.{Input, assignedIn}
 
 -- ---- of a list's numbers, each once, there are no more than in any list that has them all
 put-more : (n : ℕ) (l : List ℕ) → length (putOnce n l) ≤ suc (length l)
@@ -91,7 +91,7 @@ blocks-few pairs =
     omega arith
 
 module _ (g : Input) (some : 0 < length (g .centroids)) where
-  taken : (k : ClusteringAlgorithm) (minimum : ℕ) → EachOf (Among (g .centroids)) (map centroidOf (assignedBy k minimum g))
+  taken : (k : ClusteringAlgorithm) (minimum : ℕ) → EachOf (Among (g .centroids)) (map centroidOf (assignedIn k minimum g))
   unfolding exactly approximately
   taken algorithm.RandomKmeans minimum =
       let d = g .documents in
@@ -106,6 +106,6 @@ module _ (g : Input) (some : 0 < length (g .centroids)) where
       (assign-among cs first (nearly-among d cs some cut cs (each-among cs)) (g .ids))
 
   -- one block per centroid present
-  pub blocks-within : (k : ClusteringAlgorithm) (minimum : ℕ) → length (clusters (assignedBy k minimum g)) ≤ length (g .centroids)
+  pub blocks-within : (k : ClusteringAlgorithm) (minimum : ℕ) → length (clusters (assignedIn k minimum g)) ≤ length (g .centroids)
   unfolding clusters
-  blocks-within k minimum = subst (λ n. n ≤ length (g .centroids)) (sym (length-map (rising (map centroidOf (assignedBy k minimum g))) _)) (distinct-fewer (map centroidOf (assignedBy k minimum g)) (g .centroids) (taken k minimum))
+  blocks-within k minimum = subst (λ n. n ≤ length (g .centroids)) (sym (length-map (rising (map centroidOf (assignedIn k minimum g))) _)) (distinct-fewer (map centroidOf (assignedIn k minimum g)) (g .centroids) (taken k minimum))

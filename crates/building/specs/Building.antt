@@ -12,6 +12,9 @@ use Rattle.refusal.specs.declared.Verdict.the-variants.{Accepted, Refused}
 use Rattle.refusal.specs.First.{Test, _gives_, firstOf}
 use Rattle.lists.specs.Lists.{every}
 use Rattle.admission.specs.Admission.{inputTests}
+use Rattle.building.specs.declared.BuiltSizes.{BuiltSizes}
+use Rattle.building.specs.declared.BuildAnswer.{BuildAnswer}
+use Rattle.building.specs.declared.BuildAnswer.the-variants as answer
 use Rattle.building.specs.Built.{Input, Built, summaries, built}
 use Rattle.building.specs.Needs.{sizesOf, Scratch, scratchNeeds, scratchSuffices, Output, outputSuffices}
 
@@ -26,22 +29,32 @@ pub record Outputs : Type 0 where
   pub minimums : List Float
   pub steps : List Float
 
+abbrev pub outputs : List ℕ → List ℕ → List ℕ → List ℕ → List ℕ → List ℕ → List Float → List Float → Outputs
+outputs a b c d e f g h = record { postings = a; offsets = b; components = c; componentOffsets = d; ids = e; codes = f; minimums = g; steps = h }
+
 -- the buffers that it works in, by role
 pub record Scratches : Type 0 where
   pub order : List ℕ
   pub blocks : List ℕ
   pub sorted : List ℕ
-  pub ranks : List ℕ
-  pub terms : List ℕ
+  pub known : List ℕ
+  pub taken : List ℕ
+  pub counts : List ℕ
   pub starts : List ℕ
   pub slots : List ℕ
   pub weights : List Float
-  pub competing : List ℕ
-  pub numbers : List Float
+  pub scores : List Float
+  pub keys : List ℕ
+
+abbrev pub scratches : List ℕ → List ℕ → List ℕ → List ℕ → List ℕ → List ℕ → List ℕ → List ℕ → List Float → List Float → List ℕ → Scratches
+scratches a b c d e f g h i j k = record { order = a; blocks = b; sorted = c; known = d; taken = e; counts = f; starts = g; slots = h; weights = i; scores = j; keys = k }
 
 pub record Lent : Type 0 where
   pub output : Outputs
   pub scratch : Scratches
+
+abbrev pub lent : Outputs → Scratches → Lent
+lent o s = record { output = o; scratch = s }
 
 unfoldable pub outputLengths : Outputs → Output
 outputLengths o = record {
@@ -60,13 +73,14 @@ scratchLengths s = record {
   order = length (s .order);
   blocks = length (s .blocks);
   sorted = length (s .sorted);
-  ranks = length (s .ranks);
-  terms = length (s .terms);
+  known = length (s .known);
+  taken = length (s .taken);
+  counts = length (s .counts);
   starts = length (s .starts);
   slots = length (s .slots);
   weights = length (s .weights);
-  competing = length (s .competing);
-  numbers = length (s .numbers);
+  scores = length (s .scores);
+  keys = length (s .keys);
 }
 
 -- ---- when a build is refused
@@ -116,13 +130,14 @@ clearedScratch s = record {
   order = zeros (s .order);
   blocks = zeros (s .blocks);
   sorted = zeros (s .sorted);
-  ranks = zeros (s .ranks);
-  terms = zeros (s .terms);
+  known = zeros (s .known);
+  taken = zeros (s .taken);
+  counts = zeros (s .counts);
   starts = zeros (s .starts);
   slots = zeros (s .slots);
   weights = floatZeros (s .weights);
-  competing = zeros (s .competing);
-  numbers = floatZeros (s .numbers);
+  scores = floatZeros (s .scores);
+  keys = zeros (s .keys);
 }
 
 -- the result in front of each output buffer
@@ -145,3 +160,28 @@ leftBy (Refused r) g lent = record { output = clearedOutput (lent .output); scra
 
 unfoldable pub left : Input → Lent → Lent
 left g lent = leftBy (verdictOf g lent) g lent
+
+-- ---- what it answers: the refusal, or how many numbers each output buffer then has at its front
+abbrev pub sizesBuilt : Built → BuiltSizes
+sizesBuilt b = record {
+  postings = length (b .postings);
+  offsets = length (b .offsets);
+  components = length (b .summaries .components);
+  entries = length (b .summaries .ids);
+  summaries = length (b .summaries .minimums);
+}
+
+abbrev pub answerBy : Verdict → Built → BuildAnswer
+answerBy Accepted b = answer.Built (sizesBuilt b)
+answerBy (Refused r) b = answer.Refused r
+
+pub record Left : Type 0 where
+  pub answer : BuildAnswer
+  pub lent : Lent
+
+abbrev pub leaves : BuildAnswer → Lent → Left
+leaves a l = record { answer = a; lent = l }
+
+-- a build as a whole: its answer, and all that was lent
+unfoldable pub builds : Input → Lent → Left
+builds g l = leaves (answerBy (verdictOf g l) (built g)) (left g l)

@@ -3,14 +3,13 @@ use Prim.Native.Nat.{ℕ}
 use mathlib.Core.List.{List, [], _∷_, map}
 use lib.ListN.{length}
 use Rattle.configuration.specs.declared.BlockingStrategy.{BlockingStrategy}
-use Rattle.configuration.specs.declared.BlockingStrategy.the-variants as blocking
+use Rattle.configuration.specs.declared.BlockingStrategy.the-variants.{FixedSize, RandomKmeans}
 use Rattle.configuration.specs.declared.ClusteringAlgorithm.{ClusteringAlgorithm}
-use Rattle.configuration.specs.declared.ClusteringAlgorithm.the-variants as algorithm
 use Rattle.configuration.specs.declared.SummarizationStrategy.{SummarizationStrategy}
 use Rattle.lists.specs.Lists.{joined, offsetsFrom, between}
 use Rattle.documents.specs.Documents.{Term, Documents, packed}
 use Rattle.blocking.specs.Blocking.{fixedOffsets}
-use Rattle.clustering.specs.Clusters.{Assigned, exactly, approximately, clusters}
+use Rattle.clusters.specs.Clusters.{Assigned, assignedBy, clusters}
 use Rattle.summaries.specs.Summaries.{summary}
 use Rattle.quantized_summary.specs.Layout.{Layout}
 use Rattle.layout.specs.Layouts.{layout}
@@ -22,6 +21,9 @@ pub record Input : Type 0 where
   pub documents : Documents
   pub ids : List ℕ
   pub centroids : List ℕ
+
+abbrev pub input : ℕ → BlockingStrategy → SummarizationStrategy → Documents → List ℕ → List ℕ → Input
+input dimension blocking summarization d ids centroids = record { dimension = dimension; blocking = blocking; summarization = summarization; documents = d; ids = ids; centroids = centroids }
 
 -- the documents in the order of the list, and the block offsets
 pub record Blocked : Type 0 where
@@ -36,16 +38,19 @@ abbrev pub inClusters : List (List ℕ) → Blocked
 inClusters [] = blocked [] []
 inClusters (b ∷ bs) = blocked (joined (b ∷ bs)) (offsetsFrom 0 (b ∷ bs))
 
-abbrev pub assignedBy : ClusteringAlgorithm → ℕ → Input → List Assigned
-assignedBy algorithm.RandomKmeans minimum g = exactly (g .documents) minimum (g .centroids) (g .ids)
-assignedBy (algorithm.RandomKmeansInvertedIndexApprox cut) minimum g = approximately (g .documents) cut minimum (g .centroids) (g .ids)
+abbrev pub blockedBy : BlockingStrategy → Documents → List ℕ → List ℕ → Blocked
+blockedBy (FixedSize size) d centroids ids = blocked ids (fixedOffsets (length ids) size)
+blockedBy (RandomKmeans fraction minimum algorithm) d centroids ids = inClusters (clusters (assignedBy algorithm d minimum centroids ids))
 
-abbrev pub blockedBy : BlockingStrategy → Input → Blocked
-blockedBy (blocking.FixedSize size) g = blocked (g .ids) (fixedOffsets (length (g .ids)) size)
-blockedBy (blocking.RandomKmeans fraction minimum algorithm) g = inClusters (clusters (assignedBy algorithm minimum g))
+-- the same over an input
+abbrev pub assignedIn : ClusteringAlgorithm → ℕ → Input → List Assigned
+assignedIn algorithm minimum g = assignedBy algorithm (g .documents) minimum (g .centroids) (g .ids)
+
+abbrev pub blockedIn : BlockingStrategy → Input → Blocked
+blockedIn blocking g = blockedBy blocking (g .documents) (g .centroids) (g .ids)
 
 unfoldable pub blocks : Input → Blocked
-blocks g = blockedBy (g .blocking) g
+blocks g = blockedIn (g .blocking) g
 
 -- the documents of each block
 abbrev pub blockDocuments : Input → List (List ℕ)

@@ -18,7 +18,7 @@ use Rattle.float32.specs.Order.{atMost}
 use Rattle.documents.specs.Documents.{Term, term, Documents, documents, paired, terms, dot, greaterFirst, falling, largest}
 use Rattle.blocking.specs.Blocking.{fixedOffsets}
 use Rattle.assignment.specs.Nearest.{greatest, nearest, nearestOrItself, nearly}
-use Rattle.clustering.specs.Clusters.{dissolved, reassign, exactly, approximately, clusters}
+use Rattle.clusters.specs.Clusters.{dissolved, reassign, exactly, approximately, clusters}
 use Rattle.block_maximum.specs.Maximum.{maxima}
 use Rattle.summaries.specs.Summaries.{enough, preserving, summary}
 use Rattle.building.specs.Built.{Input, blocked, blocks, summaries}

@@ -2,11 +2,12 @@
 use Prim.Native.Nat.{ℕ, _+_, _*_, _≤_, _<_, max}
 use native.Mathlib.Omega.{arith}
 use mathlib.Core.Bool.{Bool, _&&_}
-use mathlib.Core.List.{List, [], _∷_, map, foldl}
+use mathlib.Core.List.{List, map}
 use lib.ListN.{length}
 use lib.Dec.{leb}
 use Rattle.lists.specs.Lists.{joined}
-use Rattle.documents.specs.Documents.{terms}
+use Rattle.configuration.specs.declared.BlockingStrategy.{BlockingStrategy}
+use Rattle.documents.specs.Documents.{Documents, terms}
 use Rattle.admission.specs.Admission.{centroidsUsed}
 use Rattle.building.specs.Built.{Input, Built}
 
@@ -17,49 +18,56 @@ pub record Sizes : Type 0 where
   pub centroidTerms : ℕ
   pub dimension : ℕ
 
-unfoldable pub sizesOf : Input → Sizes
-sizesOf g = let used = centroidsUsed (g .blocking) (g .centroids) in
-    record { ids = length (g .ids); centroids = length used; centroidTerms = length (joined (map (terms (g .documents)) used)); dimension = g .dimension }
+abbrev pub sizes : ℕ → ℕ → ℕ → ℕ → Sizes
+sizes n c t d = record { ids = n; centroids = c; centroidTerms = t; dimension = d }
 
--- the lengths of the scratch buffers, by role: the documents in list order; block offsets; sorted ids and centroids by rank, later a
--- block's keys; places of components, before that a document's largest terms; where the centroids' entries of each component start,
--- later the cursors of components; the slots of these entries, and their weights; centroids that compete; scores by slot, later the
--- maxima of components
+abbrev pub sizesFor : ℕ → BlockingStrategy → Documents → List ℕ → List ℕ → Sizes
+sizesFor dimension blocking d ids centroids =
+    let used = centroidsUsed blocking centroids in
+    sizes (length ids) (length used) (length (joined (map (terms d) used))) dimension
+
+unfoldable pub sizesOf : Input → Sizes
+sizesOf g = sizesFor (g .dimension) (g .blocking) (g .documents) (g .ids) (g .centroids)
+
+-- the lengths of the scratch buffers, by role: the documents in list order; block offsets; ids sorted; centroids sorted; the centroid that
+-- took each document; how many a centroid took, later a component's place; where the centroids' entries of each component start, later the
+-- counts and cursors of components; the slots of these entries, and their weights; scores by slot, later the maxima of components; a
+-- document's largest terms, later a block's keys
 pub record Scratch : Type 0 where
   pub order : ℕ
   pub blocks : ℕ
   pub sorted : ℕ
-  pub ranks : ℕ
-  pub terms : ℕ
+  pub known : ℕ
+  pub taken : ℕ
+  pub counts : ℕ
   pub starts : ℕ
   pub slots : ℕ
   pub weights : ℕ
-  pub competing : ℕ
-  pub numbers : ℕ
+  pub scores : ℕ
+  pub keys : ℕ
 
 -- the one formula
 abbrev pub scratchNeeds : Sizes → Scratch
 scratchNeeds s = record {
   order = s .ids;
   blocks = s .ids + 1;
-  sorted = max (s .ids) (s .dimension);
-  ranks = s .ids + s .centroids;
-  terms = s .dimension;
+  sorted = s .ids;
+  known = s .centroids;
+  taken = s .ids;
+  counts = max (s .centroids) (s .dimension);
   starts = s .dimension + 1;
   slots = s .centroidTerms;
   weights = s .centroidTerms;
-  competing = s .centroids;
-  numbers = max (s .centroids) (s .dimension);
+  scores = max (s .centroids) (s .dimension);
+  keys = s .dimension;
 }
 
 abbrev pub scratchSuffices : Scratch → Scratch → Bool
 scratchSuffices need lent =
-    leb (need .order) (lent .order) && (leb (need .blocks) (lent .blocks) && (leb (need .sorted) (lent .sorted) && (leb (need .ranks) (lent .ranks)
-    && (leb (need .terms) (lent .terms) && (leb (need .starts) (lent .starts) && (leb (need .slots) (lent .slots) && (leb (need .weights) (lent .weights)
-    && (leb (need .competing) (lent .competing) && leb (need .numbers) (lent .numbers)))))))))
+    leb (need .order) (lent .order) && (leb (need .blocks) (lent .blocks) && (leb (need .sorted) (lent .sorted) && (leb (need .known) (lent .known) && (leb (need .taken) (lent .taken) && (leb (need .counts) (lent .counts) && (leb (need .starts) (lent .starts) && (leb (need .slots) (lent .slots) && (leb (need .weights) (lent .weights) && (leb (need .scores) (lent .scores) && leb (need .keys) (lent .keys))))))))))
 
 abbrev pub total : Scratch → ℕ
-total s = s .order + s .blocks + s .sorted + s .ranks + s .terms + s .starts + s .slots + s .weights + s .competing + s .numbers
+total s = s .order + s .blocks + s .sorted + s .known + s .taken + s .counts + s .starts + s .slots + s .weights + s .scores + s .keys
 
 -- at most 12 numbers per list id, centroid, centroid term and dimension, which is 1 at least
 pub at-most-twelve : (s : Sizes) → 0 < s .dimension → total (scratchNeeds s) ≤ 12 * (s .ids + s .centroids + s .centroidTerms + s .dimension)

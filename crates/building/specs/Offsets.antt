@@ -18,10 +18,10 @@ use Rattle.lists.specs.Lists.{lastOr, joined, offsetsFrom, between, neverFalls}
 use Rattle.lists.specs.Groups.{NeverFalls, offsets-rise, offsets-count, offsets-last}
 use Rattle.blocking.specs.Blocking.{fixedOffsets, centroidCount}
 use Rattle.blocking.specs.Laws as fixed
-use Rattle.clustering.specs.Clusters.{clusters, documentOf}
+use Rattle.clusters.specs.Clusters.{clusters, documentOf}
 use Rattle.quantized_summary.specs.WellFormed.{blocksHold}
 use Rattle.admission.specs.Admission.{wrongCentroids, blockingFaults}
-use Rattle.building.specs.Built.{Input, Blocked, inClusters, assignedBy, blockedBy, blocks, blockDocuments, summaries, built}
+use Rattle.building.specs.Built.{Input, Blocked, inClusters, assignedIn, blockedIn, blocks, blockDocuments, summaries, built}
 use Rattle.building.specs.Shares.{clusters-share, assigned-documents}
 use Rattle.building.specs.Blocks.{blocks-few, blocks-within}
 
@@ -56,9 +56,9 @@ clusters-hold : (bs : List (List ℕ)) → OffsetsHold (length ((inClusters bs) 
 clusters-hold [] = record { never-fall = refl; last = omega arith }
 clusters-hold (b ∷ bs) = record { never-fall = never-test 0 (offsetsFrom 0 (b ∷ bs)) (offsets-rise 0 (b ∷ bs)); last = let l = offsets-last 0 (b ∷ bs) in omega arith }
 
-offsets-hold : (k : BlockingStrategy) (g : Input) → OffsetsHold (length (blockedBy k g .documents)) (blockedBy k g .offsets)
+offsets-hold : (k : BlockingStrategy) (g : Input) → OffsetsHold (length (blockedIn k g .documents)) (blockedIn k g .offsets)
 offsets-hold (FixedSize size) g = record { never-fall = fixed.offsets-never-fall (length (g .ids)) size; last = let l = fixed.offsets-last (length (g .ids)) size in omega arith }
-offsets-hold (RandomKmeans fraction minimum algorithm) g = clusters-hold (clusters (assignedBy algorithm minimum g))
+offsets-hold (RandomKmeans fraction minimum algorithm) g = clusters-hold (clusters (assignedIn algorithm minimum g))
 
 -- as many summaries as blocks
 summary-count : (g : Input) → length (summaries g) ≡ length (blocks g .offsets) - 1
@@ -67,7 +67,7 @@ summary-count g = length-map (blockDocuments g) _ ∙ between-count (blocks g .o
 
 pub blocks-hold : (g : Input) → blocksHold (length (blocks g .documents)) (length (summaries g)) (blocks g .offsets) ≡ true
 unfolding blocks
-blocks-hold g = subst (λ n. blocksHold (length (blockedBy (g .blocking) g .documents)) n (blockedBy (g .blocking) g .offsets) ≡ true) (sym (summary-count g)) (holds-test (length (blockedBy (g .blocking) g .documents)) (blockedBy (g .blocking) g .offsets) (offsets-hold (g .blocking) g))
+blocks-hold g = subst (λ n. blocksHold (length (blockedIn (g .blocking) g .documents)) n (blockedIn (g .blocking) g .offsets) ≡ true) (sym (summary-count g)) (holds-test (length (blockedIn (g .blocking) g .documents)) (blockedIn (g .blocking) g .offsets) (offsets-hold (g .blocking) g))
 
 -- ---- as many documents as listed
 in-clusters-long : (bs : List (List ℕ)) → length ((inClusters bs) .documents) ≡ length (joined bs)
@@ -80,32 +80,35 @@ permuted-long (List·Permᴰ.List·Permᴰ·cons e d) = ap suc (permuted-long d)
 permuted-long (List·Permᴰ.List·Permᴰ·swap e f) = refl
 permuted-long (List·Permᴰ.List·Permᴰ·trans d e) = permuted-long d ∙ permuted-long e
 
+pub clusters-long : (k : ClusteringAlgorithm) (minimum : ℕ) (g : Input) → length (joined (clusters (assignedIn k minimum g))) ≡ length (g .ids)
+clusters-long k minimum g = permuted-long (clusters-share (assignedIn k minimum g)) ∙ ap length (assigned-documents k minimum g)
+
 pub as-many : (g : Input) → length (blocks g .documents) ≡ length (g .ids)
 unfolding blocks
 as-many g = go (g .blocking)
   where
-    go : (k : BlockingStrategy) → length (blockedBy k g .documents) ≡ length (g .ids)
+    go : (k : BlockingStrategy) → length (blockedIn k g .documents) ≡ length (g .ids)
     go (FixedSize size) = refl
     go (RandomKmeans fraction minimum algorithm) =
-        in-clusters-long (clusters (assignedBy algorithm minimum g)) ∙ permuted-long (clusters-share (assignedBy algorithm minimum g)) ∙ ap length (assigned-documents algorithm minimum g)
+        in-clusters-long (clusters (assignedIn algorithm minimum g)) ∙ clusters-long algorithm minimum g
 
 -- ---- what an accepted input says of its numbers
 module _ (g : Input) where
-  few-fixed : (size : ℕ) → Faultless (blockingFaults (FixedSize size) (length (g .ids)) (length (g .centroids))) → length (blockedBy (FixedSize size) g .offsets) - 1 ≤ 65535
+  few-fixed : (size : ℕ) → Faultless (blockingFaults (FixedSize size) (length (g .ids)) (length (g .centroids))) → length (blockedIn (FixedSize size) g .offsets) - 1 ≤ 65535
   few-fixed size f = let n = fixed.offsets-number (length (g .ids)) size in let h = ltb-false 65535 (length (g .ids) / size) (f .1 .0) in omega arith
 
   -- the centroids listed are as many as wanted, so there are no more blocks than centroids may be
-  right-count : (fraction : Float) (n listed : ℕ) → wrongCentroids fraction n listed ≡ false → (n ≡ 0 → ⊥) → (0 < listed) × (listed ≤ 65535)
+  pub right-count : (fraction : Float) (n listed : ℕ) → wrongCentroids fraction n listed ≡ false → (n ≡ 0 → ⊥) → (0 < listed) × (listed ≤ 65535) × (listed ≤ n)
   right-count fraction n listed f some = go (ltb 65535 (centroidCount fraction n)) refl (eqb listed (min (centroidCount fraction n) n)) refl (rw (ne-eqb n 0 some) at f)
     where
-      go : (a : Bool) → ltb 65535 (centroidCount fraction n) ≡ a → (b : Bool) → eqb listed (min (centroidCount fraction n) n) ≡ b → (a || not b) ≡ false → (0 < listed) × (listed ≤ 65535)
+      go : (a : Bool) → ltb 65535 (centroidCount fraction n) ≡ a → (b : Bool) → eqb listed (min (centroidCount fraction n) n) ≡ b → (a || not b) ≡ false → (0 < listed) × (listed ≤ 65535) × (listed ≤ n)
       go true p b q h = absurd (true≢false h)
       go false p false q h = absurd (true≢false h)
       go false p true q h =
           let c = ltb-false 65535 (centroidCount fraction n) p in
           let e = eqb-true listed (min (centroidCount fraction n) n) q in
           let o = fixed.some-centroid fraction n in
-          (at listed (centroidCount fraction n) n e o (λ z. some z), within listed (centroidCount fraction n) n e c)
+          (at listed (centroidCount fraction n) n e o (λ z. some z), within listed (centroidCount fraction n) n e c, below listed (centroidCount fraction n) n e)
         where
           at : (l c n : ℕ) → l ≡ min c n → 1 ≤ c → (n ≡ 0 → ⊥) → 0 < l
           at l c zero e o s = absurd (s refl)
@@ -114,17 +117,20 @@ module _ (g : Input) where
           within : (l c n : ℕ) → l ≡ min c n → c ≤ 65535 → l ≤ 65535
           within l c n e o = omega arith
 
-  few-clusters : (fraction : Float) (minimum : ℕ) (k : ClusteringAlgorithm) → Faultless (blockingFaults (RandomKmeans fraction minimum k) (length (g .ids)) (length (g .centroids))) → length (blockedBy (RandomKmeans fraction minimum k) g .offsets) - 1 ≤ 65535
-  few-clusters fraction minimum k f = offsets (clusters (assignedBy k minimum g)) (go (ℕ-discrete (length (g .ids)) 0))
+          below : (l c n : ℕ) → l ≡ min c n → l ≤ n
+          below l c n e = omega arith
+
+  few-clusters : (fraction : Float) (minimum : ℕ) (k : ClusteringAlgorithm) → Faultless (blockingFaults (RandomKmeans fraction minimum k) (length (g .ids)) (length (g .centroids))) → length (blockedIn (RandomKmeans fraction minimum k) g .offsets) - 1 ≤ 65535
+  few-clusters fraction minimum k f = offsets (clusters (assignedIn k minimum g)) (go (ℕ-discrete (length (g .ids)) 0))
     where
       offsets : (bs : List (List ℕ)) → length bs ≤ 65535 → length ((inClusters bs) .offsets) - 1 ≤ 65535
       offsets [] h = omega arith
       offsets (b ∷ bs) h = let c = offsets-count 0 (b ∷ bs) in omega arith
 
-      go : Dec (length (g .ids) ≡ 0) → length (clusters (assignedBy k minimum g)) ≤ 65535
+      go : Dec (length (g .ids) ≡ 0) → length (clusters (assignedIn k minimum g)) ≤ 65535
       go (yes z) =
-          let a = blocks-few (assignedBy k minimum g) in
-          let b = length-map (assignedBy k minimum g) documentOf in
+          let a = blocks-few (assignedIn k minimum g) in
+          let b = length-map (assignedIn k minimum g) documentOf in
           let e = ap length (assigned-documents k minimum g) in
           omega arith
       go (no z) = let r = right-count fraction (length (g .ids)) (length (g .centroids)) (f .0) z in let w = blocks-within g (r .0) k minimum in omega (arith, r .1)
@@ -133,6 +139,6 @@ module _ (g : Input) where
   unfolding blocks
   few-blocks f = subst (λ n. n ≤ 65535) (sym (summary-count g)) (go (g .blocking) f)
     where
-      go : (k : BlockingStrategy) → Faultless (blockingFaults k (length (g .ids)) (length (g .centroids))) → length (blockedBy k g .offsets) - 1 ≤ 65535
+      go : (k : BlockingStrategy) → Faultless (blockingFaults k (length (g .ids)) (length (g .centroids))) → length (blockedIn k g .offsets) - 1 ≤ 65535
       go (FixedSize size) f = few-fixed size f
       go (RandomKmeans fraction minimum k) f = few-clusters fraction minimum k f

@@ -19,8 +19,8 @@ use Rattle.blocking.specs.Laws.{no-blocks}
 use Rattle.blocking.specs.Shares as fixed
 use Rattle.sort.specs.Sorted.{sorted}
 use Rattle.assignment.specs.Nearest.{nearest, nearestOrItself, nearly}
-use Rattle.clustering.specs.Clusters.{Assigned, assigned, centroidOf, documentOf, assign, dissolved, reassign, exactly, approximately, survivors, clusters}
-use Rattle.building.specs.Built.{Input, Blocked, blocked, inClusters, assignedBy, blockedBy, blocks, blockDocuments}
+use Rattle.clusters.specs.Clusters.{Assigned, assigned, centroidOf, documentOf, assign, dissolved, reassign, exactly, approximately, survivors, clusters}
+use Rattle.building.specs.Built.{Input, Blocked, blocked, inClusters, assignedIn, blockedIn, blocks, blockDocuments}
 
 -- ---- clusters
 map-map : {A B C : Type 0} (f : B → C) (g : A → B) (l : List A) → map f (map g l) ≡ map (λ x. f (g x)) l
@@ -72,7 +72,7 @@ approximate-documents d cut minimum centroids ids =
     let pairs = assign (nearly d cut (firstOr 0 centroids) centroids) ids in
     reassign-documents minimum (nearly d cut (firstOr 0 centroids) (survivors minimum pairs centroids)) pairs ∙ assign-documents (nearly d cut (firstOr 0 centroids) centroids) ids
 
-pub assigned-documents : (k : ClusteringAlgorithm) (minimum : ℕ) (g : Input) → map documentOf (assignedBy k minimum g) ≡ g .ids
+pub assigned-documents : (k : ClusteringAlgorithm) (minimum : ℕ) (g : Input) → map documentOf (assignedIn k minimum g) ≡ g .ids
 assigned-documents algorithm.RandomKmeans minimum g = exact-documents (g .documents) minimum (g .centroids) (g .ids)
 assigned-documents (algorithm.RandomKmeansInvertedIndexApprox cut) minimum g = approximate-documents (g .documents) cut minimum (g .centroids) (g .ids)
 
@@ -85,15 +85,15 @@ clusters-read-back (b ∷ bs) = between-offsets [] (b ∷ bs)
 pub clustered-share : (g : Input) (fraction : Float) (minimum : ℕ) (k : ClusteringAlgorithm) → g .blocking ≡ RandomKmeans fraction minimum k → List·Permᴰ (joined (blockDocuments g)) (g .ids)
 unfolding blocks
 clustered-share g fraction minimum k e =
-    subst (λ w. List·Permᴰ (joined (between (blockedBy w g .offsets) (blockedBy w g .documents))) (g .ids)) (sym e)
-    (subst (λ l. List·Permᴰ (joined l) (g .ids)) (sym (clusters-read-back (clusters (assignedBy k minimum g))))
-    (subst (λ l. List·Permᴰ (joined (clusters (assignedBy k minimum g))) l) (assigned-documents k minimum g) (clusters-share (assignedBy k minimum g))))
+    subst (λ w. List·Permᴰ (joined (between (blockedIn w g .offsets) (blockedIn w g .documents))) (g .ids)) (sym e)
+    (subst (λ l. List·Permᴰ (joined l) (g .ids)) (sym (clusters-read-back (clusters (assignedIn k minimum g))))
+    (subst (λ l. List·Permᴰ (joined (clusters (assignedIn k minimum g))) l) (assigned-documents k minimum g) (clusters-share (assignedIn k minimum g))))
 
 -- ---- fixed blocking: the blocks, one after another, are the list; a list shorter than a block has none
 pub fixed-share : (g : Input) (size q : ℕ) → g .blocking ≡ FixedSize size → length (g .ids) / size ≡ suc q → joined (blockDocuments g) ≡ g .ids
 unfolding blocks
-fixed-share g size q e h = ap (λ w. joined (between (blockedBy w g .offsets) (blockedBy w g .documents))) e ∙ fixed.fixed-shares size q (g .ids) h
+fixed-share g size q e h = ap (λ w. joined (between (blockedIn w g .offsets) (blockedIn w g .documents))) e ∙ fixed.fixed-shares size q (g .ids) h
 
 pub fixed-short : (g : Input) (size : ℕ) → g .blocking ≡ FixedSize size → length (g .ids) < size → blockDocuments g ≡ []
 unfolding blocks
-fixed-short g size e h = ap (λ w. between (blockedBy w g .offsets) (blockedBy w g .documents)) e ∙ no-blocks (length (g .ids)) size (g .ids) h
+fixed-short g size e h = ap (λ w. between (blockedIn w g .offsets) (blockedIn w g .documents)) e ∙ no-blocks (length (g .ids)) size (g .ids) h

@@ -24,11 +24,11 @@ use Rattle.quantizing.specs.Demand3.{F32s}
 use Rattle.quantizing.specs.Accepted.{Quantizable}
 use Rattle.layout.specs.Layouts.{values}
 use Rattle.layout.specs.Passes.{Storable}
-use Rattle.clustering.specs.Clusters.{clusters}
-use Rattle.clustering.specs.Ranks.{Among, rising-among}
-use Rattle.clustering.specs.Members.{each-among}
+use Rattle.clusters.specs.Clusters.{clusters}
+use Rattle.clusters.specs.Ranks.{Among, rising-among}
+use Rattle.clusters.specs.Members.{each-among}
 use Rattle.building.specs.Once.{kept-first, each-take, summary-rises}
-use Rattle.building.specs.Built.{Input, inClusters, assignedBy, blockedBy, blocks, blockDocuments, summaries}
+use Rattle.building.specs.Built.{Input, inClusters, assignedIn, blockedIn, blocks, blockDocuments, summaries}
 use Rattle.building.specs.Shares.{clusters-share, assigned-documents}
 
 -- ---- what holds of each
@@ -76,12 +76,12 @@ in-clusters-each P (b ∷ bs) e = e
 
 pub blocks-each : (P : ℕ → Type 0) (g : Input) → EachOf P (g .ids) → EachOf (EachOf P) (blockDocuments g)
 unfolding blocks
-blocks-each P g e = each-between P (blockedBy (g .blocking) g .offsets) (blockedBy (g .blocking) g .documents) (go (g .blocking))
+blocks-each P g e = each-between P (blockedIn (g .blocking) g .offsets) (blockedIn (g .blocking) g .documents) (go (g .blocking))
   where
-    go : (k : BlockingStrategy) → EachOf P (blockedBy k g .documents)
+    go : (k : BlockingStrategy) → EachOf P (blockedIn k g .documents)
     go (FixedSize size) = e
     go (RandomKmeans fraction minimum algorithm) =
-        let pairs = assignedBy algorithm minimum g in
+        let pairs = assignedIn algorithm minimum g in
         in-clusters-each P (clusters pairs) (each-permuted P (Permᴰ·symm (clusters-share pairs)) (subst (EachOf P) (sym (assigned-documents algorithm minimum g)) e))
 
 -- ---- values that are f32 in bound

@@ -9,7 +9,7 @@ use lib.Seq.{set-at, getD-at}
 use lib.Dec.{eqb}
 use borrow.Author.Tests.{eqb-true}
 use lib.IntN.{pos}
-use lib.Ieee.{Float, nan, fin, binary32, add, mul, ofBits}
+use lib.Ieee.{Float, nan, fin, binary32, add, mul}
 use Rattle.lists.specs.Lists.{EachOf, those, joined, offsetsFrom, between, part, from, withKey}
 use Rattle.lists.specs.Groups.{those-append}
 use Rattle.documents.specs.Documents.{Term, term, paired, Documents, documents, start, size, terms, sum, valuesAt, products, dot}
@@ -96,11 +96,11 @@ module _ (index d : Documents) (cs : List ℕ) (right : IndexFor index d cs) whe
       all [] = refl
       all (c ∷ l) = let i = all l in let e = at c in cc
 
-  zero-map : (l : List ℕ) → map (λ c. ofBits binary32 0) l ≡ replicate (length l) (ofBits binary32 0)
+  zero-map : (l : List ℕ) → map (λ c. fin false 0 (pos 0)) l ≡ replicate (length l) (fin false 0 (pos 0))
   zero-map [] = refl
-  zero-map (c ∷ l) = ap (λ t. ofBits binary32 0 ∷ t) (zero-map l)
+  zero-map (c ∷ l) = ap (λ t. fin false 0 (pos 0) ∷ t) (zero-map l)
 
   -- from zeros each centroid has its dot product
-  pub scores-are-dots : (back : List Float) (qs : List Term) → addTerms index (replicate (length cs) (ofBits binary32 0) ++ back) qs ≡ map (λ c. dot qs (terms d c)) cs ++ back
-  unfolding dot ofBits
-  scores-are-dots back qs = ap (λ l. addTerms index (l ++ back) qs) (sym (zero-map cs)) ∙ terms-add (λ c. ofBits binary32 0) back qs
+  pub scores-are-dots : (back : List Float) (qs : List Term) → addTerms index (replicate (length cs) (fin false 0 (pos 0)) ++ back) qs ≡ map (λ c. dot qs (terms d c)) cs ++ back
+  unfolding dot
+  scores-are-dots back qs = ap (λ l. addTerms index (l ++ back) qs) (sym (zero-map cs)) ∙ terms-add (λ c. fin false 0 (pos 0)) back qs

@@ -1,39 +1,38 @@
 -- What a clustering answers and leaves in what it was lent. Document 01, "Clusters" and "Numbered refusals".
-use Prim.Native.Nat.{ℕ, zero, suc}
-use mathlib.Core.Bool.{Bool, not, _&&_}
+use Prim.Native.Nat.{ℕ, zero, suc, _-_}
+use mathlib.Core.Bool.{Bool, false, not, _&&_}
 use mathlib.Core.List.{List, [], _∷_, _++_}
-use lib.ListN.{length, drop, replicate}
+use lib.ListN.{length, replicate}
 use lib.Seq.{sets}
 use lib.Dec.{leb, ltb, eqb}
-use lib.Ieee.{Float, binary32, ofBits}
-use Rattle.lists.specs.Lists.{every, joined, offsetsFrom}
+use lib.IntN.{pos}
+use lib.Ieee.{Float, fin}
+use Rattle.lists.specs.Lists.{joined, offsetsFrom}
 use Rattle.refusal.specs.declared.Verdict.{Verdict}
 use Rattle.refusal.specs.declared.Verdict.the-variants as verdict
 use Rattle.refusal.specs.declared.Refusal.the-variants.{BufferTooShort, WrongCentroids, WrongTerms}
 use Rattle.refusal.specs.First.{Test, _gives_}
-use Rattle.documents.specs.Documents.{Documents, terms}
-use Rattle.documents.specs.Checks.{termsHoldBelow}
+use Rattle.documents.specs.Documents.{Documents}
+use Rattle.documents.specs.Checks.{documentsHold}
 use Rattle.centroid_index.specs.Index.{entries}
 use Rattle.clustering.specs.declared.Clustered.{Clustered}
 use Rattle.clustering.specs.declared.Clustered.the-variants as clustered
 use Rattle.clustering.specs.declared.Rooms.{Rooms}
 
--- each listed document's terms hold
-abbrev pub allHold : ℕ → Documents → List ℕ → Bool
-allHold dimension d ids = every (λ i. termsHoldBelow dimension (terms d i)) ids
-
--- room for the list's ids, the centroids, their terms and the dimension
+-- room for n ids, m centroids and the dimension
 abbrev pub roomyBut : ℕ → ℕ → ℕ → Rooms → Bool
 roomyBut n m dimension r =
-    ((leb n (r .order) && leb n (r .sorted)) && (leb n (r .taken) && ltb m (r .blocks))) && ((leb m (r .known) && leb m (r .counts)) && (leb m (r .scores) && ltb dimension (r .starts)))
+    (((leb n (r .order) && leb m (r .order)) && (leb n (r .sorted) && leb n (r .taken))) && ((ltb m (r .blocks) && leb m (r .known)) && (leb m (r .counts) && leb m (r .scores))))
+    && (ltb dimension (r .starts) && leb dimension (r .keys))
 
+-- and for so many terms of the centroids
 abbrev pub roomy : ℕ → ℕ → ℕ → ℕ → Rooms → Bool
 roomy n m dimension e r = roomyBut n m dimension r && (leb e (r .slots) && leb e (r .weights))
 
 -- 14, 5 (a list needs a centroid), 4
-abbrev pub exactTests : ℕ → Documents → List ℕ → List ℕ → Rooms → List Test
-exactTests dimension d ids centroids r =
-    (not (allHold dimension d ids && allHold dimension d centroids) gives WrongTerms)
+abbrev pub clusterTests : ℕ → Documents → List ℕ → List ℕ → Rooms → List Test
+clusterTests dimension d ids centroids r =
+    (not (documentsHold dimension d ids && documentsHold dimension d centroids) gives WrongTerms)
     ∷ ((ltb 0 (length ids) && eqb (length centroids) 0) gives WrongCentroids)
     ∷ (not (roomy (length ids) (length centroids) dimension (length (entries d centroids)) r) gives BufferTooShort)
     ∷ []
@@ -50,15 +49,16 @@ pub record Lent : Type 0 where
   pub slots : List ℕ
   pub weights : List Float
   pub scores : List Float
+  pub keys : List ℕ
 
-abbrev pub lent : List ℕ → List ℕ → List ℕ → List ℕ → List ℕ → List ℕ → List ℕ → List ℕ → List Float → List Float → Lent
-lent o b s k t c st sl w x = record { order = o; blocks = b; sorted = s; known = k; taken = t; counts = c; starts = st; slots = sl; weights = w; scores = x }
+abbrev pub lent : List ℕ → List ℕ → List ℕ → List ℕ → List ℕ → List ℕ → List ℕ → List ℕ → List Float → List Float → List ℕ → Lent
+lent o b s k t c st sl w x ks = record { order = o; blocks = b; sorted = s; known = k; taken = t; counts = c; starts = st; slots = sl; weights = w; scores = x; keys = ks }
 
 abbrev pub zeros : List ℕ → List ℕ
 zeros l = replicate (length l) 0
 
 abbrev pub zeroValues : List Float → List Float
-zeroValues l = replicate (length l) (ofBits binary32 0)
+zeroValues l = replicate (length l) (fin false 0 (pos 0))
 
 -- an empty list has no offsets
 abbrev pub offsetsOf : ℕ → List (List ℕ) → List ℕ
@@ -72,12 +72,24 @@ pub record Left : Type 0 where
 abbrev pub left : Clustered → Lent → Left
 left a l = record { answer = a; lent = l }
 
--- refused: nothing changes. Accepted: the blocks' documents and offsets from the start of their slices on, and scratch all zero
+-- refused: nothing changes. Accepted: the blocks' documents from the start of their slice on, and zeros after them; the blocks' offsets
+-- from the start of theirs, after which nothing changes; scratch all zero
 abbrev pub answered : Verdict → ℕ → List (List ℕ) → Lent → Left
 answered (verdict.Refused r) n cs l = left (clustered.Refused r) l
 answered verdict.Accepted n cs l =
     left (clustered.Blocks (length cs))
-    (lent (joined cs ++ drop n (l .order)) (sets (l .blocks) 0 (offsetsOf n cs)) (zeros (l .sorted)) (zeros (l .known)) (zeros (l .taken)) (zeros (l .counts)) (zeros (l .starts)) (zeros (l .slots)) (zeroValues (l .weights)) (zeroValues (l .scores)))
+    (lent
+    (joined cs ++ replicate (length (l .order) - n) 0)
+    (sets (l .blocks) 0 (offsetsOf n cs))
+    (zeros (l .sorted))
+    (zeros (l .known))
+    (zeros (l .taken))
+    (zeros (l .counts))
+    (zeros (l .starts))
+    (zeros (l .slots))
+    (zeroValues (l .weights))
+    (zeroValues (l .scores))
+    (zeros (l .keys)))
 
 -- the lengths of what is lent
 abbrev pub roomsOf : Lent → Rooms
@@ -93,4 +105,5 @@ roomsOf l =
       slots = length (l .slots);
       weights = length (l .weights);
       scores = length (l .scores);
+      keys = length (l .keys);
     }

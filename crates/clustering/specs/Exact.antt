@@ -1,37 +1,33 @@
 -- The exact mode's passes give the ranks of document 01's centroids. Assumes nothing.
-use Prim.Native.Nat.{ℕ, zero, suc, _+_, _-_, _≤_, _<_, _^_}
+use Prim.Native.Nat.{ℕ, _≤_, _<_, _^_}
 use native.Mathlib.Omega.{arith}
-use mathlib.Core.Path.{_≡_, refl, sym, ap, _∙_, subst}
+use mathlib.Core.Path.{_≡_, refl, sym, ap, _∙_}
 use mathlib.Core.Bool.{Bool, true, false, _&&_, _||_, cond, true≢false}
 use mathlib.Core.List.{List, [], _∷_, _++_, map}
-use lib.ListN.{length, getD, take, drop, replicate, replicate-append-replicate, length-map}
+use lib.ListN.{length, getD, take, drop, replicate, length-map}
 use lib.Seq.{take-at}
 use lib.Dec.{leb, ltb, eqb}
-use lib.Ieee.{Float, binary32, ofBits}
-use borrow.Author.Tests.{lt-ltb, eq-eqb, ne-eqb, eqb-true, eqb-false}
+use lib.Ieee.{Float}
+use borrow.Author.Tests.{lt-ltb, eq-eqb, eqb-true, eqb-false}
 use Rattle.sort.specs.Sorted.{sorted}
 use Rattle.sort.specs.Laws.{length-sorted}
-use Rattle.lists.specs.Lists.{EachOf, those, among, from}
-use Rattle.documents.specs.Documents.{Documents, documents, terms, dot}
-use Rattle.counting.specs.Counting.{Laid, laidOut, counted, tally}
+use Rattle.lists.specs.Lists.{those, among}
+use Rattle.documents.specs.Documents.{Documents, documents, terms}
+use Rattle.counting.specs.Counting.{laidOut, counted, tally}
 use Rattle.counting.specs.Tally.{tally-is}
-use Rattle.centroid_index.specs.Index.{componentOf, entries, indexOf, indexed, addTerms}
-use Rattle.centroid_index.specs.Filled.{index-filled}
-use Rattle.centroid_index.specs.Lookup.{index-for}
-use Rattle.centroid_index.specs.Scores.{IndexFor, scores-are-dots}
+use Rattle.centroid_index.specs.Index.{indexed}
 use Rattle.assignment.specs.Nearest.{nearest, nearestOrItself, firstAbove}
 use Rattle.assignment.specs.Loops.{nearest-loop}
 use Rattle.assignment.specs.Scored.{scoresOf}
-use Rattle.clustering.specs.Clusters.{assign, small, dissolved, exactly}
-use Rattle.clustering.specs.Ordered.{sorted-ordered, among-sorted}
-use Rattle.clustering.specs.Ranks.{rankOf, Among, rank-eqb, rank-below}
-use Rattle.clustering.specs.Canonical.{dissolved-by, reassign-is}
-use Rattle.clustering.specs.Members.{nearest-among, itself-among, each-among}
-use Rattle.clustering.specs.Search.{at-rank}
+use Rattle.clusters.specs.Clusters.{assign, dissolved, exactly}
+use Rattle.clusters.specs.Ordered.{sorted-ordered, among-sorted}
+use Rattle.clusters.specs.Ranks.{rankOf, Among, rank-below}
+use Rattle.clusters.specs.Canonical.{dissolved-by, reassign-is}
+use Rattle.clusters.specs.Members.{nearest-among, itself-among, each-among}
+use Rattle.clusters.specs.Search.{at-rank}
 use Rattle.clustering.specs.Passes.{over, over-map, over-mapped, firstChoice, tookItself, secondRank}
-
-abbrev pub indexDocuments : Laid ℕ Float → Documents
-indexDocuments s = documents (s .cursors) (s .first) (s .second)
+use Rattle.clustering.specs.Indexes.{indexDocuments, Indexes, rest, scores-are}
+use Rattle.clustering.specs.Sizes.{count-is, tally-length, each-same}
 
 -- ---- what the passes leave, for slices of any length: s offsets, a slots, b weights, n scores, k counters
 abbrev pub firstRanks : Documents → List ℕ → List ℕ → ℕ → ℕ → ℕ → ℕ → ℕ → ℕ
@@ -41,56 +37,20 @@ unfoldable pub exactRanks : Documents → ℕ → List ℕ → List ℕ → ℕ 
 exactRanks d minimum centroids known s a b n k ids =
     map (λ i. secondRank known (counted (replicate k 0) (map (firstRanks d centroids known s a b n) ids)) minimum centroids (indexDocuments (indexed d centroids s a b)) n d i (firstRanks d centroids known s a b n i)) ids
 
--- ---- an index with room is the centroids'
+-- ---- room for the index, for scores and for counters, and a centroid
 pub record Room (d : Documents) (centroids : List ℕ) (s a b n k : ℕ) : Type 0 where
   pub some : 0 < length centroids
-  pub offsets : 0 < s
-  pub below : EachOf (λ e. componentOf e < s - 1) (entries d centroids)
-  pub slots : length (entries d centroids) ≤ a
-  pub weights : length (entries d centroids) ≤ b
-  pub short : length (entries d centroids) < 2 ^ 64
-  pub scores : length centroids ≤ n
+  pub index : Indexes d centroids s a b n
   pub counters : length centroids ≤ k
 
 module _ (d : Documents) (centroids : List ℕ) (s a b n k : ℕ) (room : Room d centroids s a b n k) where
-  pub index-right : IndexFor (indexDocuments (indexed d centroids s a b)) d centroids
-  index-right =
-      let e = length (entries d centroids) in
-      let p : suc (s - 1) ≡ s = omega (arith, room .offsets) in
-      let q : e + (a - e) ≡ a = omega (arith, room .slots) in
-      let r : e + (b - e) ≡ b = omega (arith, room .weights) in
-      let w : indexed d centroids s a b ≡ laidOut (indexOf (s - 1) d centroids .offsets) (indexOf (s - 1) d centroids .components ++ replicate (a - e) 0) (indexOf (s - 1) d centroids .values ++ replicate (b - e) (ofBits binary32 0)) =
-      (λ i. indexed d centroids (sym p i) (sym q i) (sym r i)) ∙ index-filled (s - 1) d centroids (room .below) (room .short) (a - e) (b - e) in
-      subst (λ (t : Laid ℕ Float). IndexFor (indexDocuments t) d centroids) (sym w) (index-for (s - 1) d centroids (room .below) (replicate (a - e) 0) (replicate (b - e) (ofBits binary32 0)))
-
   -- ---- the first choice
   above-is-nearest : (i : ℕ) → firstAbove centroids (scoresOf (indexDocuments (indexed d centroids s a b)) n (terms d i)) ≡ nearest d centroids i
-  above-is-nearest i =
-      let m = length centroids in
-      let q : m + (n - m) ≡ n = omega (arith, room .scores) in
-      let back = replicate (n - m) (ofBits binary32 0) in
-      ap (λ t. firstAbove centroids (scoresOf (indexDocuments (indexed d centroids s a b)) t (terms d i))) (sym q)
-      ∙ ap (λ l. firstAbove centroids (addTerms (indexDocuments (indexed d centroids s a b)) l (terms d i))) (sym (replicate-append-replicate m (n - m) (ofBits binary32 0)))
-      ∙ ap (firstAbove centroids) (scores-are-dots (indexDocuments (indexed d centroids s a b)) d centroids index-right back (terms d i))
-      ∙ nearest-loop d centroids i back
+  above-is-nearest i = ap (firstAbove centroids) (scores-are d centroids s a b n (room .index) (terms d i)) ∙ nearest-loop d centroids i (rest d centroids s a b n (room .index))
 
   choice-is : (i : ℕ) → firstChoice (sorted centroids) centroids (indexDocuments (indexed d centroids s a b)) n d i ≡ nearestOrItself d centroids i
   unfolding nearestOrItself
   choice-is i = (λ j. cond (among-sorted i centroids j) i (above-is-nearest i j))
-
--- ---- counts by rank
-from-at : (a n k : ℕ) → k < n → (G : ℕ → ℕ) → getD (map G (from a n)) k 0 ≡ G (a + k)
-from-at a zero k h G = absurd (let z : ⊥ = omega arith in z)
-from-at a (suc n) zero h G = ap G (let z : a ≡ a + 0 = omega arith in z)
-from-at a (suc n) (suc k) h G = from-at (suc a) n k (omega arith) G ∙ ap G (let z : suc a + k ≡ a + suc k = omega arith in z)
-
-from-length : (a n : ℕ) → length (from a n) ≡ n
-from-length a zero = refl
-from-length a (suc n) = ap suc (from-length (suc a) n)
-
-those-same : (p q : ℕ → Bool) → ((i : ℕ) → p i ≡ q i) → (l : List ℕ) → those p l ≡ those q l
-those-same p q e [] = refl
-those-same p q e (i ∷ l) = let j = those-same p q e l in rw (e i, j)
 
 some-those : (p : ℕ → Bool) (l : List ℕ) (i : ℕ) → Among l i → p i ≡ true → 0 < length (those p l)
 some-those p [] i a h = absurd (true≢false (sym a))
@@ -128,20 +88,6 @@ module _ (d : Documents) (minimum : ℕ) (centroids : List ℕ) (s a b n k : ℕ
   first-among : (i : ℕ) → Among (sorted centroids) (nearestOrItself d centroids i)
   first-among i = among-sorted (nearestOrItself d centroids i) centroids ∙ itself-among d centroids (room .some) i
 
-  rank-fits : (i : ℕ) → rankOf (sorted centroids) (nearestOrItself d centroids i) < length centroids
-  rank-fits i = let r = rank-below (nearestOrItself d centroids i) (sorted centroids) (first-among i) in let l = length-sorted centroids in omega arith
-
-  -- the count at a document's rank is the size of its group
-  count-is : (i : ℕ) → getD (tally (λ j. rankOf (sorted centroids) (nearestOrItself d centroids j)) k (sorted ids)) (rankOf (sorted centroids) (nearestOrItself d centroids i)) 0
-      ≡ length (those (λ j. eqb (nearestOrItself d centroids j) (nearestOrItself d centroids i)) (sorted ids))
-  count-is i =
-      let r = rankOf (sorted centroids) (nearestOrItself d centroids i) in
-      let G : ℕ → ℕ = λ c. length (those (λ j. eqb (rankOf (sorted centroids) (nearestOrItself d centroids j)) c) (sorted ids)) in
-      from-at 0 k r (let f = rank-fits i in omega (arith, room .counters)) G
-      ∙ ap G (let z : 0 + r ≡ r = omega arith in z)
-      ∙ ap length (those-same (λ j. eqb (rankOf (sorted centroids) (nearestOrItself d centroids j)) r) (λ j. eqb (nearestOrItself d centroids j) (nearestOrItself d centroids i))
-      (λ j. rank-eqb (sorted centroids) (nearestOrItself d centroids j) (nearestOrItself d centroids i) (first-among j) (first-among i)) (sorted ids))
-
   -- a document of the list ends where document 01 says
   second-is : (counts : List ℕ) → counts ≡ tally (λ j. rankOf (sorted centroids) (nearestOrItself d centroids j)) k (sorted ids) → (i : ℕ) → Among (sorted ids) i
       → secondRank (sorted centroids) counts minimum centroids (indexDocuments (indexed d centroids s a b)) n d i (rankOf (sorted centroids) (nearestOrItself d centroids i)) ≡ rankOf (sorted centroids) (lastCentroid i)
@@ -149,11 +95,11 @@ module _ (d : Documents) (minimum : ℕ) (centroids : List ℕ) (s a b n k : ℕ
       let r = rankOf (sorted centroids) (nearestOrItself d centroids i) in
       let f = nearestOrItself d centroids i in
       let g = length (those (λ j. eqb (nearestOrItself d centroids j) f) (sorted ids)) in
-      let l : length counts ≡ k = ap length e ∙ length-map (from 0 k) _ ∙ from-length 0 k in
-      let h = rank-fits i in
-      let p : ltb r (length counts) ≡ true = lt-ltb r (length counts) (omega (arith, room .counters)) in
+      let l : length counts ≡ k = ap length e ∙ tally-length centroids k (room .counters) (nearestOrItself d centroids) first-among ids in
+      let h = rank-below f (sorted centroids) (first-among i) in
+      let p : ltb r (length counts) ≡ true = lt-ltb r (length counts) (let w = length-sorted centroids in omega (arith, room .counters)) in
       let q : ltb r (length (sorted centroids)) ≡ true = lt-ltb r (length (sorted centroids)) (let w = length-sorted centroids in omega arith) in
-      let c : getD counts r 0 ≡ g = ap (λ t. getD t r 0) e ∙ count-is i in
+      let c : getD counts r 0 ≡ g = ap (λ t. getD t r 0) e ∙ count-is centroids k (room .counters) (nearestOrItself d centroids) first-among ids f (first-among i) in
       let v : getD (sorted centroids) r 0 ≡ f = at-rank (sorted centroids) f (sorted-ordered centroids) (first-among i) in
       let o : ltb 0 g ≡ true = lt-ltb 0 g (some-those (λ j. eqb (nearestOrItself d centroids j) f) (sorted ids) i m (eq-eqb f f refl)) in
       let t : tookItself (sorted centroids) counts minimum i r ≡ (leb g minimum && eqb f i) = (λ j. (p j && leb (c j) minimum) && (q j && eqb (v j) i)) in
@@ -167,10 +113,6 @@ module _ (d : Documents) (minimum : ℕ) (centroids : List ℕ) (s a b n k : ℕ
       go true true w = refl
       go true false w = ap (rankOf (sorted centroids)) (not-itself d centroids i (eqb-false (nearestOrItself d centroids i) i w))
       go false y w = refl
-
-  each-same : (F G : ℕ → ℕ) (l m : List ℕ) → ((i : ℕ) → Among l i → F i ≡ G i) → EachOf (Among l) m → map F m ≡ map G m
-  each-same F G l [] h e = refl
-  each-same F G l (i ∷ m) h e = let x = h i (e .0) in let y = each-same F G l m h (e .1) in cc
 
   map-same : (F G : ℕ → ℕ) → ((i : ℕ) → F i ≡ G i) → (m : List ℕ) → map F m ≡ map G m
   map-same F G h [] = refl

@@ -1,13 +1,9 @@
-pub mod Clusters
-pub mod Ordered
-pub mod Ranks
-pub mod Canonical
-pub mod Members
-pub mod Search
 pub mod Passes
+pub mod Indexes
+pub mod Sizes
 pub mod Exact
+pub mod Approximate
 pub mod Fits
 pub mod Answers
+pub mod Given
 pub mod Ready
-pub mod Promises
-pub mod Cases

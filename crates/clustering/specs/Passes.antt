@@ -14,7 +14,7 @@ use Rattle.lists.specs.Lists.{among}
 use Rattle.documents.specs.Documents.{Documents, terms}
 use Rattle.assignment.specs.Nearest.{firstAbove}
 use Rattle.assignment.specs.Scored.{scoresOf}
-use Rattle.clustering.specs.Ranks.{rankOf}
+use Rattle.clusters.specs.Ranks.{rankOf}
 
 -- ---- each number gives way to what a step makes of a document and of it
 abbrev pub over : (ℕ → ℕ → ℕ) → List ℕ → List ℕ → List ℕ

@@ -2,33 +2,9 @@
 ghost use mathlib.Core.Path.{_≡_};
 ghost use lib.ListN.{length};
 ghost use lib.Dec.{leb};
-ghost use Rattle.lists.specs.Lists.{every};
-ghost use Rattle.documents.specs.Documents.{documents, terms};
-ghost use Rattle.documents.specs.Checks.{termsHoldBelow};
+ghost use Rattle.documents.specs.Documents.{documents};
 ghost use Rattle.centroid_index.specs.Index.{entries};
 use names::DocumentId;
-
-// Whether the terms of each listed document hold: components strictly rise and stay below the dimension, and values are in bound.
-pub(crate) fn terms_hold(
-    dimension: u64,
-    offsets: &[u64],
-    components: &[u32],
-    values: &[f32],
-    ids: &[u64],
-) -> bool
-    ensures { λ r. ⌜ r ≡ every (λ i. termsHoldBelow dimension (terms (documents (now (offsets .entry)) (now (components .entry)) (now (values .entry))) i)) (now (ids .entry)) ⌝ }
-{
-    let mut ok = true;
-    let mut i = 0usize;
-    while i < ids.len() {
-        let p = centroid_index::places_of(offsets, components, values, DocumentId(ids[i]));
-        let from = p.from;
-        let to = p.to;
-        ok = ok & documents::slices_hold_below(dimension, &components[from..to], &values[from..to]);
-        i += 1;
-    }
-    ok
-}
 
 // Whether the centroids have at most so many terms.
 pub(crate) fn entries_fit(

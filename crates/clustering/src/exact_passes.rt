@@ -8,8 +8,8 @@ ghost use mathlib.Core.List.{_++_};
 ghost use Rattle.clustering.specs.Exact.{exactRanks};
 ghost use Prim.Native.Nat.{_≤_};
 ghost use Rattle.documents.specs.Documents.{documents};
-ghost use Rattle.clustering.specs.Ordered.{Ordered};
-ghost use Rattle.clustering.specs.Ranks.{rankOf};
+ghost use Rattle.clusters.specs.Ordered.{Ordered};
+ghost use Rattle.clusters.specs.Ranks.{rankOf};
 ghost use Rattle.clustering.specs.Passes.{over, firstChoice, secondRank};
 use names::DocumentId;
 
@@ -207,7 +207,7 @@ pub(crate) fn assign(
         scores,
         taken,
     );
-    counting::clear(counts);
+    clearing::clear_u64(counts);
     let n = ids.len();
     counting::count(&taken[..n], counts);
     second_pass(

@@ -2,10 +2,8 @@ pub mod Documents
 pub mod Checks
 pub mod Answers
 pub mod Laws
-pub mod Pages
 pub mod TermKeys
 pub mod Places
 pub mod Bounds
 pub mod Ranges
-pub mod Promises
 pub mod Cases

@@ -9,6 +9,7 @@ pub mod Entry
 pub mod Lent
 pub mod Laid
 pub mod Place
+pub mod Fours
 pub mod Push
 pub mod WellKept
 pub mod Told

@@ -9,6 +9,7 @@ ghost use lib.Ieee.{nan};
 ghost use Rattle.kept_list.specs.Entry.{scored, better as isBetter};
 ghost use Rattle.kept_list.specs.Lent.{lent, entryAt, entries, inserted, settled};
 ghost use Rattle.kept_list.specs.Place.{Placed};
+ghost use Rattle.kept_list.specs.Fours.{fourBelow, Fitting, fourPassed};
 ghost use Rattle.kept_list.specs.Push.{sound, wellKept, verdictOf, left, pushed};
 
 // A range found, with its score.
@@ -43,7 +44,51 @@ fn entry(at: usize, packed: &[u64], scores: &[f32]) -> Scored
     Scored::new(packed[at], scores[at])
 }
 
-// The entry is laid down at a place and goes up past the worse ones right above it, exchanged with each.
+// Whether the four scores right above a place are all below x: an entry with score x is better than those four. That the scores are
+// values of the format is said for whoever relies on it.
+fn four_below(i: usize, scores: &[f32], x: f32) -> bool
+    requires { ⌜ (4 ≤ i) × (i < len (now scores)) ⌝ }
+    ensures { λ r. ⌜ (r ≡ fourBelow x i (now (scores .entry))) × Fitting x (now (scores .entry)) ⌝ }
+{
+    let a = i - 1;
+    let b = i - 2;
+    let c = i - 3;
+    let d = i - 4;
+    (scores[a] < x) & ((scores[b] < x) & ((scores[c] < x) & (scores[d] < x)))
+}
+
+// The entry at a place is exchanged with the four above it at once: each goes down by one. The four are read before a place is
+// written, so that the compiler can move them together.
+fn pass_four(i: usize, packed: &mut [u64], scores: &mut [f32], e: Scored)
+    requires { ⌜ (4 ≤ i) × (i < len (now packed)) × (i < len (now scores)) ⌝ }
+    ensures { λ _. ⌜ (now (packed .exit) ≡ fourPassed 0 (e .packed) i (now (packed .entry))) × (now (scores .exit) ≡ fourPassed nan (e .score) i (now (scores .entry))) ⌝ }
+{
+    let a = i - 1;
+    let b = i - 2;
+    let c = i - 3;
+    let d = i - 4;
+    let p1 = packed[a];
+    let p2 = packed[b];
+    let p3 = packed[c];
+    let p4 = packed[d];
+    packed[i] = p1;
+    packed[a] = p2;
+    packed[b] = p3;
+    packed[c] = p4;
+    packed[d] = e.packed;
+    let x1 = scores[a];
+    let x2 = scores[b];
+    let x3 = scores[c];
+    let x4 = scores[d];
+    scores[i] = x1;
+    scores[a] = x2;
+    scores[b] = x3;
+    scores[c] = x4;
+    scores[d] = e.score;
+}
+
+// The entry is laid down at a place and goes up past the worse ones right above it, exchanged with four at once where their scores are
+// all below its own, and else with one.
 fn insert(at: usize, packed: &mut [u64], scores: &mut [f32], e: Scored)
     requires { ⌜ (at < len (now packed)) × (at < len (now scores)) ⌝ }
     ensures { λ _. ⌜ lent (at + 1) (now (packed .exit)) (now (scores .exit)) ≡ inserted e (lent at (now (packed .entry)) (now (scores .entry))) ⌝ }
@@ -52,6 +97,13 @@ fn insert(at: usize, packed: &mut [u64], scores: &mut [f32], e: Scored)
     scores[at] = e.score;
     let mut i = at;
     while 0 < i {
+        if 4 <= i {
+            if four_below(i, scores, e.score) {
+                pass_four(i, packed, scores, e);
+                i = i - 4;
+                continue;
+            }
+        }
         let j = i - 1;
         let above = Scored {
             packed: packed[j],

@@ -1,19 +1,21 @@
 -- The parts of a reading, place by place as the loops go. Assumes nothing.
 use mathlib.Core.Path.{_≡_, refl, sym, ap, _∙_}
-use mathlib.Core.List.{List}
+use mathlib.Core.List.{List, [], _∷_}
 use mathlib.Core.Bool.{Bool, true, false, cond}
-use Prim.Native.Nat.{ℕ, suc, _+_, _≤_, _<_, _%_}
+use Prim.Native.Nat.{ℕ, suc, _+_, _≤_, _<_, _%_, min}
 use native.Mathlib.Omega.{arith}
 use native.Mathlib.Numerals.{add-one}
-use borrow.Author.Tests.{lt-ltb, le-ltb, eq-eqb, ne-eqb}
+use borrow.Author.Tests.{lt-ltb, le-ltb, eq-eqb, ne-eqb, ltb-true, ltb-false}
 use lib.ListN.{length, getD, drop, set, replicate, drop-of-length-le}
 use lib.Seq.{drop-cons, drop-length}
 use lib.Dec.{eqb, ltb}
 use lib.Ieee.{Float, nan, binary32, ofBits, add, mul}
-use Rattle.documents.specs.Checks.{slicesHold}
+use Rattle.lists.specs.Lists.{every}
+use Rattle.documents.specs.Checks.{slicesHold, slicesHoldBelow}
+use Rattle.documents.specs.Laws.{both, slices-even, slices-below}
 use Rattle.page.specs.declared.Reading.the-variants.{Breaks, Score}
 use Rattle.page.specs.declared.Sum.{Sum}
-use Rattle.page.specs.Through.{marking, sieveOf, sumOf, belows, sought, looked, stepped, through, readThrough}
+use Rattle.page.specs.Through.{laying, laidSum, marking, sieveOf, sumOf, belows, sought, looked, stepped, through, readThrough}
 
 -- ---- the sieve
 pub marking-step : (sieve qs : List ℕ) (i : ℕ) → i < length qs → marking (set sieve (getD qs i 0 % 4096) 1) (drop (i + 1) qs) ≡ marking sieve (drop i qs)
@@ -93,12 +95,62 @@ module _ (sieve qs : List ℕ) (ws : List Float) (cs : List ℕ) (vs : List Floa
   unfolding through
   through-end s p = rw (drop-length cs)
 
--- ---- the reading
-module _ (sieve qs : List ℕ) (ws : List Float) (cs : List ℕ) (vs : List Float) where
-  pub reads : slicesHold cs vs ≡ true → (y : Float) → y ≡ (through sieve qs ws cs vs (sumOf (ofBits binary32 0) 0)) .total → Score y ≡ readThrough sieve qs ws cs vs
-  unfolding readThrough
-  reads h y e = rw h (ap Score e)
+-- ---- the table
+pub put-there : (table : List Float) (c : ℕ) (w : Float) → c < 32768 → set table c w ≡ cond (ltb c 32768) (set table c w) table
+put-there table c w l = rw (lt-ltb c 32768 l)
 
-  pub breaks : slicesHold cs vs ≡ false → Breaks ≡ readThrough sieve qs ws cs vs
+pub put-nowhere : (table : List Float) (c : ℕ) (w : Float) → 32768 ≤ c → table ≡ cond (ltb c 32768) (set table c w) table
+put-nowhere table c w l = rw (le-ltb c 32768 l)
+
+module _ (qs : List ℕ) (ws : List Float) where
+  abbrev pub layingFrom : List Float → ℕ → List Float
+  layingFrom table i = laying table (drop i qs) (drop i ws)
+
+  pub laying-step : (table next : List Float) (i : ℕ) → i < length qs → i < length ws → next ≡ cond (ltb (getD qs i 0) 32768) (set table (getD qs i 0) (getD ws i nan)) table → layingFrom next (i + 1) ≡ layingFrom table i
+  unfolding laying
+  laying-step table next i h g e = rw (e, add-one i, drop-cons qs i 0 h, drop-cons ws i nan g)
+
+  laying-none : (table : List Float) (l : List Float) → laying table [] l ≡ table
+  unfolding laying
+  laying-none table l = refl
+
+  laying-short : (table : List Float) (l : List ℕ) → laying table l [] ≡ table
+  unfolding laying
+  laying-short table [] = refl
+  laying-short table (q ∷ l) = refl
+
+  pub laying-end : (table : List Float) (i : ℕ) → min (length qs) (length ws) ≤ i → layingFrom table i ≡ table
+  laying-end table i h = at (ltb i (length qs)) refl
+    where
+      at : (b : Bool) → ltb i (length qs) ≡ b → layingFrom table i ≡ table
+      at true e = let l = ltb-true i (length qs) e in let g : length ws ≤ i = omega arith in rw (drop-of-length-le ws g) (laying-short table (drop i qs))
+      at false e = rw (drop-of-length-le qs (ltb-false i (length qs) e)) (laying-none table (drop i ws))
+
+module _ (table : List Float) (cs : List ℕ) (vs : List Float) where
+  abbrev pub laidFrom : ℕ → Float → Float
+  laidFrom i x = laidSum table (drop i cs) (drop i vs) x
+
+  pub laid-step : (i : ℕ) (x : Float) → i < length cs → length cs ≡ length vs → laidFrom i x ≡ laidFrom (i + 1) (add binary32 x (mul binary32 (getD vs i nan) (getD table (getD cs i 0 % 32768) nan)))
+  unfolding laidSum
+  laid-step i x h p = let g : i < length vs = omega arith in rw (add-one i, drop-cons cs i 0 h, drop-cons vs i nan g)
+
+  pub laid-end : (i : ℕ) (x : Float) → length cs ≤ i → laidFrom i x ≡ x
+  unfolding laidSum
+  laid-end i x h = rw (drop-of-length-le cs h)
+
+-- ---- the reading
+pub below-even : (cs : List ℕ) (vs : List Float) → slicesHoldBelow 32768 cs vs ≡ true → length cs ≡ length vs
+below-even cs vs h = slices-even cs vs (both (slicesHold cs vs) (every (λ c. ltb c 32768) cs) (sym (slices-below 32768 cs vs) ∙ h) .0)
+
+module _ (table : List Float) (sieve qs : List ℕ) (ws : List Float) (cs : List ℕ) (vs : List Float) where
+  pub reads-laid : slicesHoldBelow 32768 cs vs ≡ true → (y : Float) → y ≡ laidSum table cs vs (ofBits binary32 0) → Score y ≡ readThrough table sieve qs ws cs vs
   unfolding readThrough
-  breaks h = rw h
+  reads-laid h y e = rw h (ap Score e)
+
+  pub reads : slicesHoldBelow 32768 cs vs ≡ false → slicesHold cs vs ≡ true → (y : Float) → y ≡ (through sieve qs ws cs vs (sumOf (ofBits binary32 0) 0)) .total → Score y ≡ readThrough table sieve qs ws cs vs
+  unfolding readThrough
+  reads b h y e = rw (b, h) (ap Score e)
+
+  pub breaks : slicesHoldBelow 32768 cs vs ≡ false → slicesHold cs vs ≡ false → Breaks ≡ readThrough table sieve qs ws cs vs
+  unfolding readThrough
+  breaks b h = rw (b, h)

@@ -1,16 +1,34 @@
--- A page's terms taken one by one through a sieve, for any sieve and any query: what the program does. `Reads` has what it comes to.
+-- A page's terms taken one by one, with the query laid out in a table or through a sieve, for any table, sieve and query: what the
+-- program does. `Reads` has what it comes to.
 use mathlib.Core.List.{List, [], _∷_}
-use mathlib.Core.Bool.{Bool, _&&_, cond}
+use mathlib.Core.Bool.{Bool, false, _&&_, cond}
 use Prim.Native.Nat.{ℕ, suc, _+_, _%_}
 use lib.ListN.{length, getD, drop, set, replicate}
 use lib.Dec.{eqb, ltb}
-use lib.Ieee.{Float, nan, binary32, ofBits, add, mul}
-use Rattle.documents.specs.Checks.{slicesHold}
+use lib.IntN.{pos}
+use lib.Ieee.{Float, nan, fin, binary32, ofBits, add, mul}
+use Rattle.documents.specs.Checks.{slicesHold, slicesHoldBelow}
 use Rattle.page.specs.declared.Reading.{Reading}
 use Rattle.page.specs.declared.Reading.the-variants.{Breaks, Score}
 use Rattle.page.specs.declared.Sum.{Sum}
 
--- 1 at the remainder of each component
+-- ---- the table: the weight of each component below 32,768 at its own place
+unfoldable pub laying : List Float → List ℕ → List Float → List Float
+laying table [] ws = table
+laying table (q ∷ qs) [] = table
+laying table (q ∷ qs) (w ∷ ws) = laying (cond (ltb q 32768) (set table q w) table) qs ws
+
+-- and +0 at the others
+unfoldable pub tableOf : List ℕ → List Float → List Float
+tableOf qs ws = laying (replicate 32768 (fin false 0 (pos 0))) qs ws
+
+-- each term's value times what the table has for its component, added one after another
+unfoldable pub laidSum : List Float → List ℕ → List Float → Float → Float
+laidSum table [] vs x = x
+laidSum table (c ∷ cs) [] x = x
+laidSum table (c ∷ cs) (v ∷ vs) x = laidSum table cs vs (add binary32 x (mul binary32 v (getD table (c % 32768) nan)))
+
+-- ---- the sieve: 1 at the remainder of each component
 unfoldable pub marking : List ℕ → List ℕ → List ℕ
 marking sieve [] = sieve
 marking sieve (q ∷ qs) = marking (set sieve (q % 4096) 1) qs
@@ -49,5 +67,8 @@ through sieve qs ws [] vs s = s
 through sieve qs ws (c ∷ cs) [] s = s
 through sieve qs ws (c ∷ cs) (v ∷ vs) s = through sieve qs ws cs vs (stepped sieve qs ws c v s)
 
-unfoldable pub readThrough : List ℕ → List ℕ → List Float → List ℕ → List Float → Reading
-readThrough sieve qs ws cs vs = cond (slicesHold cs vs) (Score ((through sieve qs ws cs vs (sumOf (ofBits binary32 0) 0)) .total)) Breaks
+-- ---- by the table where each component has a place in it, else through the sieve
+unfoldable pub readThrough : List Float → List ℕ → List ℕ → List Float → List ℕ → List Float → Reading
+readThrough table sieve qs ws cs vs =
+    cond (slicesHoldBelow 32768 cs vs) (Score (laidSum table cs vs (ofBits binary32 0)))
+    (cond (slicesHold cs vs) (Score ((through sieve qs ws cs vs (sumOf (ofBits binary32 0) 0)) .total)) Breaks)

@@ -1,9 +1,11 @@
 // One page read against a query: its terms are checked and its score is taken, in two short passes over them.
 ghost use mathlib.Core.Path.{_≡_};
+ghost use mathlib.Core.Bool.{cond};
 ghost use Prim.Native.Nat.{_≤_, _<_, _+_, _%_};
-ghost use lib.ListN.{length, getD, drop};
+ghost use lib.ListN.{length, getD, drop, set};
+ghost use lib.Dec.{ltb};
 ghost use lib.Ieee.{ofBits, binary32};
-ghost use Rattle.page.specs.Through.{sieveOf, sought, looked, stepped, through, sumOf, readThrough};
+ghost use Rattle.page.specs.Through.{laying, laidSum, sieveOf, sought, looked, stepped, through, sumOf, readThrough};
 
 // What reading a page says: its terms break their rules (14), or its score.
 pub enum Reading {
@@ -15,6 +17,28 @@ pub enum Reading {
 struct Sum {
     total: f32,
     at: usize,
+}
+
+// A weight is put at the place of its component, if there is one.
+fn put(table: &mut [f32; 32768], c: u32, weight: f32)
+    ensures { λ _. ⌜ now (table .exit) ≡ cond (ltb c 32768) (set (now (table .entry)) c weight) (now (table .entry)) ⌝ }
+{
+    if c < 32768 {
+        let place = c as usize;
+        table[place] = weight;
+    }
+}
+
+// Lays the query out in a table: the weight of each component below 32,768 at its own place. It is done once for a search, on zeros.
+pub fn lay(asked: &[u32], weights: &[f32], table: &mut [f32; 32768])
+    ensures { λ _. ⌜ now (table .exit) ≡ laying (now (table .entry)) (now (asked .entry)) (now (weights .entry)) ⌝ }
+{
+    let n = documents::term_count(asked, weights);
+    let mut i = 0usize;
+    while i < n {
+        put(table, asked[i], weights[i]);
+        i += 1;
+    }
 }
 
 // The sieve of a query: 1 at the remainder by 4,096 of each of its components, else 0. It is made once for a search.
@@ -192,18 +216,40 @@ fn walk(
     s.total
 }
 
-// A page's reading through a sieve. With the sieve of a query whose terms hold, it is the reading against that query (specs/Reads).
-// It takes time in proportion to the page's terms, and nearly nothing for a term that the query lacks.
+// The sum over a page's terms by the table, with no branch on what they are: a term that the query lacks adds a zero, which changes
+// nothing (specs/Zeros).
+fn laid_sum(table: &[f32; 32768], components: &[u32], values: &[f32]) -> f32
+    requires { ⌜ length (now components) ≡ length (now values) ⌝ }
+    ensures { λ r. ⌜ r ≡ laidSum (now (table .entry)) (now (components .entry)) (now (values .entry)) (ofBits binary32 0) ⌝ }
+{
+    let mut sum = 0.0;
+    let mut i = 0usize;
+    while i < components.len() {
+        let c = components[i];
+        let place = (c % 32768) as usize;
+        sum = sum + values[i] * table[place];
+        i += 1;
+    }
+    sum
+}
+
+// A page's reading by a table, or through a sieve where it has a component from 32,768 on. With the table and the sieve of a query whose
+// terms hold, it is the reading against that query (specs/Reads). It takes time in proportion to the page's terms.
 pub fn read(
+    table: &[f32; 32768],
     sieve: &[u8; 4096],
     components: &[u32],
     values: &[f32],
     asked: &[u32],
     weights: &[f32],
 ) -> Reading
-    ensures { λ r. ⌜ r ≡ readThrough (now (sieve .entry)) (now (asked .entry)) (now (weights .entry)) (now (components .entry)) (now (values .entry)) ⌝ }
+    ensures { λ r. ⌜ r ≡ readThrough (now (table .entry)) (now (sieve .entry)) (now (asked .entry)) (now (weights .entry)) (now (components .entry)) (now (values .entry)) ⌝ }
 {
-    if documents::slices_hold(components, values) {
+    if document_checks::slices_hold_below(32768, components, values) {
+        let laid = laid_sum(table, components, values);
+        return Reading::Score(laid);
+    }
+    if document_checks::slices_hold(components, values) {
         let score = walk(sieve, components, values, asked, weights);
         return Reading::Score(score);
     }

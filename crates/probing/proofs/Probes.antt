@@ -4,10 +4,10 @@ use native.Mathlib.Omega.{arith}
 use mathlib.Core.Path.{_≡_, refl, sym, ap, _∙_}
 use mathlib.Core.Bool.{Bool, true, false, not, _||_, true≢false}
 use mathlib.Core.List.{List, _++_}
-use lib.ListN.{length, take}
+use lib.ListN.{length, take, replicate}
 use lib.Seq.{length-take-le}
 use lib.Dec.{eqb, ltb, leb}
-use lib.Ieee.{Float}
+use lib.Ieee.{Float, binary32, ofBits}
 use borrow.Author.Tests.{eqb-true, ltb-false, leb-false, not-false}
 use Rattle.refusal.specs.declared.Refusal.{Refusal}
 use Rattle.refusal.specs.declared.Verdict.{Verdict}
@@ -15,7 +15,7 @@ use Rattle.refusal.specs.declared.Verdict.the-variants as verdict
 use Rattle.refusal.specs.First.{firstOf, faultless}
 use Rattle.documents.specs.Checks.{slicesHold}
 use Rattle.kept_list.specs.Laid.{RoomFor}
-use Rattle.page.specs.Through.{sieveOf}
+use Rattle.page.specs.Through.{laying, tableOf, sieveOf}
 use Rattle.probing.specs.declared.Answer.{Answer}
 use Rattle.probing.specs.declared.Answer.the-variants.{Refused}
 use Rattle.probing.specs.declared.Turn.{Turn}
@@ -37,17 +37,23 @@ so-many-bytes n v h = let m : n + 1 ≤ length v = omega arith in sym (length-ta
 more-bytes : (n : ℕ) (v : List ℕ) → suc n ≤ length v → n < length (take (n + 1) v)
 more-bytes n v h = omega (arith, so-many-bytes n v h)
 
+-- a query laid out on zeros
+pub laid-out : (table : List Float) (qs : List ℕ) (ws : List Float) → table ≡ laying (replicate 32768 (ofBits binary32 0)) qs ws → table ≡ tableOf qs ws
+unfolding tableOf ofBits
+laid-out table qs ws e = e
+
 module _ (k : ℕ) (t : Terms) (l : Lends) (v : Verdict) (e : v ≡ firstOf (tests k t l)) where
   pub refused-is : (f : Float) (ps os : List ℕ) (xs : List Float) (bs : List ℕ) (r : Refusal) → v ≡ verdict.Refused r → left (Refused r) l ≡ probed k f t ps os xs bs l
   unfolding probed
   refused-is f ps os xs bs r h = rw (← e, h)
 
   module _ (h : v ≡ verdict.Accepted) where
-    pub ready-of : (sieve : List ℕ) → sieve ≡ sieveOf (t .queryComponents) → Ready sieve (t .queryComponents) (t .queryValues) (t .components) (t .values) (length (bytesOf t (l .visits)))
-    ready-of sieve s =
+    pub ready-of : (table : List Float) → table ≡ tableOf (t .queryComponents) (t .queryValues) → (sieve : List ℕ) → sieve ≡ sieveOf (t .queryComponents) → Ready table sieve (t .queryComponents) (t .queryValues) (t .components) (t .values) (length (bytesOf t (l .visits)))
+    ready-of table laid sieve s =
         let n = faultless (tests k t l) (sym e ∙ h) in
         let b = neither (ltb (length (l .kept .packed)) k || ltb (length (l .kept .scores)) k) (leb (length (l .visits)) (length (t .components))) (n .1 .1 .1 .0) in
         record {
+          table-is = laid;
           sieve-is = s;
           query-holds = not-false (slicesHold (t .queryComponents) (t .queryValues)) (n .0);
           even = eqb-true (length (t .components)) (length (t .values)) (not-false (eqb (length (t .components)) (length (t .values))) (n .1 .0));

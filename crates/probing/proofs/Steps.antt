@@ -18,7 +18,7 @@ use Rattle.kept_list.specs.Entry.{scored}
 use Rattle.kept_list.specs.Lent.{Lent, settled}
 use Rattle.page.specs.declared.Reading.{Reading}
 use Rattle.page.specs.Reading.{reading}
-use Rattle.page.specs.Through.{readThrough}
+use Rattle.page.specs.Through.{tableOf, readThrough}
 use Rattle.page.specs.Reads.{read-is}
 use Rattle.probing.specs.declared.Counts.{Counts}
 use Rattle.probing.specs.declared.Turn.the-variants.{On, Stopped}
@@ -41,11 +41,11 @@ no-place v s h = sym (set-out v s 1 h)
 pub range-past : (qs : List ℕ) (ws : List Float) (cs : List ℕ) (vs : List Float) (s e : ℕ) → length cs < e → ReachesPast ≡ rangeAt qs ws cs vs s e
 range-past qs ws cs vs s e h = rw (lt-leb e (length cs) h)
 
-pub range-read : (sieve qs : List ℕ) (ws : List Float) (cs : List ℕ) (vs : List Float) (b s e : ℕ) (r : Reading) → Ready sieve qs ws cs vs b → e ≤ length cs
-    → r ≡ readThrough sieve qs ws (take (e - s) (drop s cs)) (take (e - s) (drop s vs)) → ofPage r ≡ rangeAt qs ws cs vs s e
-range-read sieve qs ws cs vs b s e r ready h f =
+pub range-read : (table : List Float) (sieve qs : List ℕ) (ws : List Float) (cs : List ℕ) (vs : List Float) (b s e : ℕ) (r : Reading) → Ready table sieve qs ws cs vs b → e ≤ length cs
+    → r ≡ readThrough table sieve qs ws (take (e - s) (drop s cs)) (take (e - s) (drop s vs)) → ofPage r ≡ rangeAt qs ws cs vs s e
+range-read table sieve qs ws cs vs b s e r ready h f =
     rw (le-leb e (length cs) h)
-    (ap ofPage (f ∙ ap (λ x. readThrough x qs ws (part s (e - s) cs) (part s (e - s) vs)) (ready .sieve-is) ∙ read-is qs ws (part s (e - s) cs) (part s (e - s) vs) (ready .query-holds)))
+    (ap ofPage (f ∙ ap (λ x. readThrough x sieve qs ws (part s (e - s) cs) (part s (e - s) vs)) (ready .table-is) ∙ ap (λ x. readThrough (tableOf qs ws) x qs ws (part s (e - s) cs) (part s (e - s) vs)) (ready .sieve-is) ∙ read-is qs ws (part s (e - s) cs) (part s (e - s) vs) (ready .query-holds)))
 
 -- a range that has a score ends within the terms
 pub score-within : (qs : List ℕ) (ws : List Float) (cs : List ℕ) (vs : List Float) (s e : ℕ) (x : Float) → Score x ≡ rangeAt qs ws cs vs s e → e ≤ length cs
@@ -94,19 +94,19 @@ module _ (p : ℕ) (u : UnpackedRange) (e : u ≡ unpacked p) where
   end-by = rw e (omega arith)
 
   -- an unvisited start that can be scored has its byte, and is still to be counted
-  pub one-more : (sieve qs : List ℕ) (ws : List Float) (cs : List ℕ) (vs : List Float) (v : List ℕ) (n : ℕ) (x : Float) → Ready sieve qs ws cs vs (length v)
+  pub one-more : (table : List Float) (sieve qs : List ℕ) (ws : List Float) (cs : List ℕ) (vs : List Float) (v : List ℕ) (n : ℕ) (x : Float) → Ready table sieve qs ws cs vs (length v)
       → false ≡ not (eqb (getD v (u .start .0) 0) 0) → Score x ≡ rangeAt qs ws cs vs (u .start .0) (u .end) → n + unvisited v ≤ length v → n + 1 ≤ length v
-  one-more sieve qs ws cs vs v n x ready f r h =
+  one-more table sieve qs ws cs vs v n x ready f r h =
       let w = score-within qs ws cs vs (u .start .0) (u .end) x r in
       let o = end-by in
       let z = unvisited-set v (u .start .0) (omega (arith, ready .has-bytes)) (eqb-true (getD v (u .start .0) 0) 0 (not-false (eqb (getD v (u .start .0) 0) 0) (sym f))) in
       omega arith
 
 -- what can be scored has a byte
-pub ready-bytes : (sieve qs : List ℕ) (ws : List Float) (cs : List ℕ) (vs : List Float) (n : ℕ) → Ready sieve qs ws cs vs n → HasBytes (rangeReading qs ws cs vs) n
+pub ready-bytes : (table : List Float) (sieve qs : List ℕ) (ws : List Float) (cs : List ℕ) (vs : List Float) (n : ℕ) → Ready table sieve qs ws cs vs n → HasBytes (rangeReading qs ws cs vs) n
 unfolding rangeReading
-ready-bytes sieve qs ws cs vs n ready p x e = let z = score-within qs ws cs vs (startOf p) (startOf p + lengthOf p) x (sym e) in omega (arith, ready .has-bytes)
+ready-bytes table sieve qs ws cs vs n ready p x e = let z = score-within qs ws cs vs (startOf p) (startOf p + lengthOf p) x (sym e) in omega (arith, ready .has-bytes)
 
 -- the same with as many bytes
-pub ready-same : (sieve qs : List ℕ) (ws : List Float) (cs : List ℕ) (vs : List Float) (n m : ℕ) → Ready sieve qs ws cs vs n → m ≡ n → Ready sieve qs ws cs vs m
-ready-same sieve qs ws cs vs n m r e = record { sieve-is = r .sieve-is; query-holds = r .query-holds; even = r .even; has-bytes = omega (arith, r .has-bytes) }
+pub ready-same : (table : List Float) (sieve qs : List ℕ) (ws : List Float) (cs : List ℕ) (vs : List Float) (n m : ℕ) → Ready table sieve qs ws cs vs n → m ≡ n → Ready table sieve qs ws cs vs m
+ready-same table sieve qs ws cs vs n m r e = record { table-is = r .table-is; sieve-is = r .sieve-is; query-holds = r .query-holds; even = r .even; has-bytes = omega (arith, r .has-bytes) }

@@ -6,9 +6,8 @@ use native.Mathlib.Numerals.{add-one}
 use mathlib.Core.Path.{_≡_, refl, sym, ap, _∙_}
 use mathlib.Core.Bool.{Bool, true, false, cond}
 use mathlib.Core.List.{List, [], _∷_, map}
-use lib.ListN.{length, getD, List·getD-eq-default}
-use lib.Dec.{eqb}
-use lib.Ieee.{Float, nan, inf, fin, binary32, lt, mul}
+use lib.ListN.{length, getD}
+use lib.Ieee.{Float, nan}
 use borrow.Author.Tests.{eq-eqb, ne-eqb}
 use Rattle.lists.specs.Lists.{from}
 use Rattle.refusal.specs.declared.Refusal.{Refusal}
@@ -19,40 +18,19 @@ use Rattle.probing.specs.declared.Turn.the-variants.{On, Stopped}
 use Rattle.probing.specs.declared.RangeReading.{RangeReading}
 use Rattle.probing.specs.Probing.{Place}
 use Rattle.probing.specs.Probed.{Lends, lends, listed}
-use Rattle.probing.specs.Held.{Turned, turned, counts, heldEvaluate, heldProbe, heldSkips, placesOf, heldTurn, blockAt, heldSweep}
+use Rattle.probing.specs.Held.{Turned, turned, counts, heldEvaluate, heldProbe, worstHeld, skipsAt, heldSkips, placesOf, heldTurn, blockAt, heldSweep}
 
--- ---- the skip test
-mul-nan : (f : Float) → mul binary32 f nan ≡ nan
-unfolding mul
-mul-nan nan = refl
-mul-nan (inf s) = refl
-mul-nan (fin s m e) = refl
+-- ---- the worst kept score, and the skip test
+pub worst-none : (n : ℕ) (xs : List Float) → n ≡ 0 → nan ≡ worstHeld n xs
+worst-none n xs h = rw (eq-eqb n 0 h)
 
-lt-nan : (x : Float) → lt x nan ≡ false
-unfolding lt
-lt-nan nan = refl
-lt-nan (inf s) = refl
-lt-nan (fin s m e) = refl
-
-no-worst : (f x : Float) → lt x (mul binary32 f nan) ≡ false
-no-worst f x = ap (lt x) (mul-nan f) ∙ lt-nan x
+pub worst-some : (n : ℕ) (xs : List Float) (x : Float) → (n ≡ 0 → ⊥) → x ≡ getD xs (n - 1) nan → x ≡ worstHeld n xs
+worst-some n xs x h e = rw (ne-eqb n 0 h) e
 
 module _ (k : ℕ) (f x : Float) (n : ℕ) (xs : List Float) where
-  pub skips-few : (n ≡ k → ⊥) → false ≡ heldSkips k f x n xs
+  pub skips-by : (w : Float) (r b : Bool) → w ≡ worstHeld n xs → r ≡ skipsAt k f x n w → r ≡ b → heldSkips k f x n xs ≡ b
   unfolding heldSkips
-  skips-few h = rw (ne-eqb n k h)
-
-  pub skips-none : n ≡ k → n ≡ 0 → false ≡ heldSkips k f x n xs
-  unfolding heldSkips
-  skips-none h z = rw (eq-eqb n k h, eq-eqb n 0 z) (sym (no-worst f x))
-
-  pub skips-short : n ≡ k → (n ≡ 0 → ⊥) → length xs ≤ n - 1 → false ≡ heldSkips k f x n xs
-  unfolding heldSkips
-  skips-short h z l = rw (eq-eqb n k h, ne-eqb n 0 z, List·getD-eq-default xs nan l) (sym (no-worst f x))
-
-  pub skips-test : n ≡ k → (n ≡ 0 → ⊥) → lt x (mul binary32 f (getD xs (n - 1) nan)) ≡ heldSkips k f x n xs
-  unfolding heldSkips
-  skips-test h z = rw (eq-eqb n k h, ne-eqb n 0 z)
+  skips-by w r b p q h = ap (skipsAt k f x n) (sym p) ∙ sym q ∙ h
 
 -- ---- a block
 pub block-is : (os : List ℕ) (xs : List Float) (b : ℕ) (x : Float) (s e : ℕ) → x ≡ getD xs b nan → s ≡ getD os b 0 → e ≡ getD os (b + 1) 0 → _≡_ {A = Block} (record { score = x; start = s; end = e }) (blockAt os xs b)

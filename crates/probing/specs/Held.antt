@@ -12,7 +12,7 @@ use Rattle.refusal.specs.declared.Refusal.{Refusal}
 use Rattle.documents.specs.Checks.{slicesHold}
 use Rattle.kept_list.specs.Entry.{scored}
 use Rattle.kept_list.specs.Lent.{Lent, settled}
-use Rattle.page.specs.Through.{sieveOf}
+use Rattle.page.specs.Through.{tableOf, sieveOf}
 use Rattle.probing.specs.declared.Answer.{Answer}
 use Rattle.probing.specs.declared.Answer.the-variants as answer
 use Rattle.probing.specs.declared.Block.{Block}
@@ -64,8 +64,11 @@ heldProbe k read ps (i ∷ is) c l = next (heldEvaluate k read (getD ps i 0) i c
 abbrev pub worstHeld : ℕ → List Float → Float
 worstHeld n xs = cond (eqb n 0) nan (getD xs (n - 1) nan)
 
+abbrev pub skipsAt : ℕ → Float → Float → ℕ → Float → Bool
+skipsAt k factor score n worst = eqb n k && lt score (mul binary32 factor worst)
+
 unfoldable pub heldSkips : ℕ → Float → Float → ℕ → List Float → Bool
-heldSkips k factor score n xs = eqb n k && lt score (mul binary32 factor (worstHeld n xs))
+heldSkips k factor score n xs = skipsAt k factor score n (worstHeld n xs)
 
 abbrev pub placesOf : List ℕ → Block → List Place
 placesOf ps b = from (b .start) (min (b .end) (length ps) - b .start)
@@ -86,8 +89,9 @@ abbrev pub answerOf : Turn → ℕ → Answer
 answerOf (On c) n = answer.Found n (c .evaluated) (c .skipped)
 answerOf (Stopped r i) n = answer.Stopped r i
 
--- ---- what a step relies on: the query's own sieve, terms that hold, and a byte for each start
-pub record Ready (sieve qs : List ℕ) (ws : List Float) (cs : List ℕ) (vs : List Float) (bytes : ℕ) : Type 0 where
+-- ---- what a step relies on: the query's own table and sieve, terms that hold, and a byte for each start
+pub record Ready (table : List Float) (sieve qs : List ℕ) (ws : List Float) (cs : List ℕ) (vs : List Float) (bytes : ℕ) : Type 0 where
+  pub table-is : table ≡ tableOf qs ws
   pub sieve-is : sieve ≡ sieveOf qs
   pub query-holds : slicesHold qs ws ≡ true
   pub even : length cs ≡ length vs

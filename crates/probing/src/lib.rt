@@ -11,7 +11,7 @@ ghost use Rattle.refusal.specs.First.{firstOf};
 ghost use Rattle.kept_list.specs.Lent.{lent};
 ghost use Rattle.probing.specs.Ranges.{rangeAt, rangeReading};
 ghost use Rattle.probing.specs.Probed.{terms, lends, left, tests, listed, probed};
-ghost use Rattle.probing.specs.Held.{counts as counted, turned, keptFound, heldEvaluate, heldProbe, heldSkips, heldTurn, blockAt, heldSweep, answerOf, Ready};
+ghost use Rattle.probing.specs.Held.{counts as counted, turned, keptFound, heldEvaluate, heldProbe, worstHeld, skipsAt, heldTurn, blockAt, heldSweep, answerOf, Ready};
 ghost use Rattle.probing.specs.Counted.{unvisited};
 use kept_list::Scored;
 use names::BlockNumber;
@@ -85,6 +85,7 @@ fn visit(visits: &mut [u8], start: RangeStart)
 
 // The terms from a start to below an end, read against the query.
 fn read_range(
+    table: &[f32; 32768],
     sieve: &[u8; 4096],
     asked: &[u32],
     weights: &[f32],
@@ -93,7 +94,7 @@ fn read_range(
     start: RangeStart,
     end: u64,
 ) -> RangeReading
-    requires { ⌜ Ready (now sieve) (now asked) (now weights) (now components) (now values) (len (now components) + 1) ⌝ }
+    requires { ⌜ Ready (now table) (now sieve) (now asked) (now weights) (now components) (now values) (len (now components) + 1) ⌝ }
     requires { ⌜ start .0 ≤ end ⌝ }
     ensures { λ r. ⌜ r ≡ rangeAt (now (asked .entry)) (now (weights .entry)) (now (components .entry)) (now (values .entry)) (start .0) end ⌝ }
 {
@@ -103,6 +104,7 @@ fn read_range(
         return RangeReading::ReachesPast;
     }
     let r = page::read(
+        table,
         sieve,
         &components[from..to],
         &values[from..to],
@@ -140,6 +142,7 @@ fn keep_found(
 // One posting: passed over where its start was visited; else its range is read, and a scored one is kept if it is among the k best,
 // and its start is marked. Nothing changes where it stops the search.
 fn evaluate(
+    table: &[f32; 32768],
     sieve: &[u8; 4096],
     asked: &[u32],
     weights: &[f32],
@@ -154,7 +157,7 @@ fn evaluate(
     visits: &mut [u8],
     counts: Counts,
 ) -> Turn
-    requires { ⌜ Ready (now sieve) (now asked) (now weights) (now components) (now values) (len (now visits)) ⌝ }
+    requires { ⌜ Ready (now table) (now sieve) (now asked) (now weights) (now components) (now values) (len (now visits)) ⌝ }
     requires { ⌜ counts .evaluated + unvisited (now visits) ≤ len (now visits) ⌝ }
     ensures { λ r. ⌜ turned r (lends (lent (now (length .exit)) (now (packed .exit)) (now (scores .exit))) (now (visits .exit)))
         ≡ heldEvaluate k (rangeReading (now (asked .entry)) (now (weights .entry)) (now (components .entry)) (now (values .entry)))
@@ -165,7 +168,16 @@ fn evaluate(
     if is_visited(visits, start) {
         return Turn::On(counts);
     }
-    let r = read_range(sieve, asked, weights, components, values, start, range.end);
+    let r = read_range(
+        table,
+        sieve,
+        asked,
+        weights,
+        components,
+        values,
+        start,
+        range.end,
+    );
     match r {
         RangeReading::ReachesPast => Turn::Stopped {
             reason: Refusal::PastTheTerms,
@@ -187,6 +199,7 @@ fn evaluate(
 
 // The postings from one position to below another, one after another.
 fn probe_postings(
+    table: &[f32; 32768],
     sieve: &[u8; 4096],
     asked: &[u32],
     weights: &[f32],
@@ -202,7 +215,7 @@ fn probe_postings(
     visits: &mut [u8],
     counts: Counts,
 ) -> Turn
-    requires { ⌜ Ready (now sieve) (now asked) (now weights) (now components) (now values) (len (now visits)) ⌝ }
+    requires { ⌜ Ready (now table) (now sieve) (now asked) (now weights) (now components) (now values) (len (now visits)) ⌝ }
     requires { ⌜ counts .evaluated + unvisited (now visits) ≤ len (now visits) ⌝ }
     requires { ⌜ end ≤ len (now postings) ⌝ }
     ensures { λ r. ⌜ turned r (lends (lent (now (length .exit)) (now (packed .exit)) (now (scores .exit))) (now (visits .exit)))
@@ -213,6 +226,7 @@ fn probe_postings(
     let mut i = first;
     while i < end {
         let t = evaluate(
+            table,
             sieve,
             asked,
             weights,
@@ -243,21 +257,28 @@ fn probe_postings(
     Turn::On(c)
 }
 
-// Whether a block is skipped: k are kept, and its score is below the factor times the worst kept score.
-fn skips(k: u64, factor: f32, score: f32, length: u64, scores: &[f32]) -> bool
-    ensures { λ r. ⌜ r ≡ heldSkips k factor score length (now (scores .entry)) ⌝ }
+// A score at a place, or a NaN where there is none: with it no block is skipped.
+fn dot_at(dots: &[f32], at: usize) -> f32
+    ensures { λ r. ⌜ r ≡ getD (now (dots .entry)) at nan ⌝ }
 {
-    if length != k {
-        return false;
-    }
+    if at < dots.len() { dots[at] } else { 0.0 / 0.0 }
+}
+
+// The worst kept score, the last one; a NaN where nothing is kept.
+fn worst_kept(length: u64, scores: &[f32]) -> f32
+    ensures { λ r. ⌜ r ≡ worstHeld length (now (scores .entry)) ⌝ }
+{
     if length == 0 {
-        return false;
+        return 0.0 / 0.0;
     }
-    let last = (length - 1) as usize;
-    if scores.len() <= last {
-        return false;
-    }
-    score < factor * scores[last]
+    dot_at(scores, (length - 1) as usize)
+}
+
+// Whether a block is skipped: k are kept, and its score is below the factor times the worst kept score.
+fn skips(k: u64, factor: f32, score: f32, length: u64, worst: f32) -> bool
+    ensures { λ r. ⌜ r ≡ skipsAt k factor score length worst ⌝ }
+{
+    (length == k) & (score < factor * worst)
 }
 
 fn least(a: u64, b: usize) -> usize
@@ -267,8 +288,9 @@ fn least(a: u64, b: usize) -> usize
     if n <= b { n } else { b }
 }
 
-// A block's turn. The test is made with what is kept now; a skipped block marks nothing.
+// A block's turn. The test is made with the worst of what is kept now; a skipped block marks nothing.
 fn take_turn(
+    table: &[f32; 32768],
     sieve: &[u8; 4096],
     asked: &[u32],
     weights: &[f32],
@@ -276,6 +298,7 @@ fn take_turn(
     values: &[f32],
     k: u64,
     factor: f32,
+    worst: f32,
     postings: &[u64],
     block: Block,
     length: &mut u64,
@@ -284,15 +307,16 @@ fn take_turn(
     visits: &mut [u8],
     counts: Counts,
 ) -> Turn
-    requires { ⌜ Ready (now sieve) (now asked) (now weights) (now components) (now values) (len (now visits)) ⌝ }
+    requires { ⌜ Ready (now table) (now sieve) (now asked) (now weights) (now components) (now values) (len (now visits)) ⌝ }
     requires { ⌜ counts .evaluated + unvisited (now visits) ≤ len (now visits) ⌝ }
     requires { ⌜ counts .skipped < 18446744073709551615 ⌝ }
+    requires { ⌜ worst ≡ worstHeld (now length) (now scores) ⌝ }
     ensures { λ r. ⌜ turned r (lends (lent (now (length .exit)) (now (packed .exit)) (now (scores .exit))) (now (visits .exit)))
         ≡ heldTurn k factor (rangeReading (now (asked .entry)) (now (weights .entry)) (now (components .entry)) (now (values .entry)))
         (now (postings .entry)) block counts (lends (lent (now (length .entry)) (now (packed .entry)) (now (scores .entry))) (now (visits .entry))) ⌝ }
 {
     let n = *length;
-    if skips(k, factor, block.score, n, scores) {
+    if skips(k, factor, block.score, n, worst) {
         return Turn::On(Counts {
             evaluated: counts.evaluated,
             skipped: counts.skipped + 1,
@@ -301,6 +325,7 @@ fn take_turn(
     let first = block.start as usize;
     let end = least(block.end, postings.len());
     probe_postings(
+        table,
         sieve,
         asked,
         weights,
@@ -323,13 +348,6 @@ fn offset_at(offsets: &[u64], at: usize) -> u64
     ensures { λ r. ⌜ r ≡ getD (now (offsets .entry)) at 0 ⌝ }
 {
     if at < offsets.len() { offsets[at] } else { 0 }
-}
-
-// A score at a place, or a NaN where there is none: with it no block is skipped.
-fn dot_at(dots: &[f32], at: usize) -> f32
-    ensures { λ r. ⌜ r ≡ getD (now (dots .entry)) at nan ⌝ }
-{
-    if at < dots.len() { dots[at] } else { 0.0 / 0.0 }
 }
 
 // The end of a block is the offset after its own; the last number of all has none after it.
@@ -371,6 +389,7 @@ fn number_at(order: &[u64], turn: u64) -> BlockNumber
 
 // So many turns, one after another.
 fn sweep(
+    table: &[f32; 32768],
     sieve: &[u8; 4096],
     asked: &[u32],
     weights: &[f32],
@@ -388,7 +407,7 @@ fn sweep(
     scores: &mut [f32],
     visits: &mut [u8],
 ) -> Turn
-    requires { ⌜ Ready (now sieve) (now asked) (now weights) (now components) (now values) (len (now visits)) ⌝ }
+    requires { ⌜ Ready (now table) (now sieve) (now asked) (now weights) (now components) (now values) (len (now visits)) ⌝ }
     ensures { λ r. ⌜ turned r (lends (lent (now (length .exit)) (now (packed .exit)) (now (scores .exit))) (now (visits .exit)))
         ≡ heldSweep k factor (rangeReading (now (asked .entry)) (now (weights .entry)) (now (components .entry)) (now (values .entry)))
         (now (postings .entry)) (now (offsets .entry)) (now (dots .entry)) (listed (now (order .entry)) turns) (counted 0 0) (lends (lent (now (length .entry)) (now (packed .entry)) (now (scores .entry))) (now (visits .entry))) ⌝ }
@@ -397,10 +416,12 @@ fn sweep(
         evaluated: 0,
         skipped: 0,
     };
+    let mut worst = worst_kept(*length, scores);
     let mut i = 0u64;
     while i < turns {
         let b = block_at(offsets, dots, number_at(order, i));
         let t = take_turn(
+            table,
             sieve,
             asked,
             weights,
@@ -408,6 +429,7 @@ fn sweep(
             values,
             k,
             factor,
+            worst,
             postings,
             b,
             length,
@@ -421,12 +443,11 @@ fn sweep(
                 c = d;
             }
             Turn::Stopped { reason, position } => {
-                return Turn::Stopped {
-                    reason: reason,
-                    position: position,
-                };
+                return Turn::Stopped { reason, position };
             }
         }
+        let next = worst_kept(*length, scores);
+        worst = next;
         i += 1;
     }
     Turn::On(c)
@@ -464,7 +485,7 @@ fn admit(
     ensures { λ r. ⌜ r ≡ firstOf (tests k (terms (now (asked .entry)) (now (weights .entry)) (now (components .entry)) (now (values .entry)))
         (lends (lent length (now (packed .entry)) (now (scores .entry))) (now (visits .entry)))) ⌝ }
 {
-    if !documents::slices_hold(asked, weights) {
+    if !document_checks::slices_hold(asked, weights) {
         return Verdict::Refused(Refusal::WrongQuery);
     }
     if components.len() != values.len() {
@@ -519,9 +540,12 @@ pub fn probe(
     if let Verdict::Refused(reason) = verdict {
         return Answer::Refused(reason);
     }
-    let sieve = page::sieve_of(asked);
     let bytes = components.len() + 1;
+    let mut table = [0.0f32; 32768];
+    page::lay(asked, weights, &mut table);
+    let sieve = page::sieve_of(asked);
     let t = sweep(
+        &table,
         &sieve,
         asked,
         weights,

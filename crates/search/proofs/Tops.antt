@@ -27,6 +27,7 @@ use Rattle.probing.specs.declared.Answer.the-variants.{Refused}
 use Rattle.probing.specs.Probed.{Terms, Lends, Left, left, laid, listed, probed, tests as probingTests}
 use Rattle.search.specs.Order.{byScore}
 use Rattle.search.specs.Searched.{Question, blockCount, scoresFor, swept, room, tests, scorePlaces, leaves, searched, orderPlaces, leavesInOrder, searchedInOrder}
+use Rattle.search.specs.Numbers.{numbersLeft, Slices, searched-numbers, ordered-numbers}
 use Rattle.search.proofs.Fronts.{front, put-front, none-listed, all-listed}
 use Rattle.search.proofs.Keyed.{order-length}
 
@@ -112,13 +113,19 @@ module _ (q : Question) (l : Lends) (xs : List Float) (v : Verdict) (e : v ≡ f
     pub score-room : blockCount q ≤ length xs
     score-room = leb-true (blockCount q) (length xs) (block-places q l (scorePlaces q xs) v e h)
 
-    pub accepted-search : (f : Left) (ys : List Float) → ys ≡ putIn (scoresFor q) xs
+    accepted-search : (f : Left) (ys : List Float) → ys ≡ putIn (scoresFor q) xs
         → f ≡ probed (q .k) (q .factor) (q .terms) (q .postings) (q .offsets) (take (blockCount q) ys) (listed (take 0 (q .postings)) (blockCount q)) l → leaves f ys ≡ searched q l xs
     unfolding searched
     accepted-search f ys p g =
         let s = front (scoresFor q) xs ys (blockCount q) (scores-many q l (scorePlaces q xs) v e h) score-room p in
         let o = found-is q l (scorePlaces q xs) v e h (take (blockCount q) ys) (listed [] (blockCount q)) f g s in
         rw (← e, h) (ap (λ y. leaves f y) p ∙ ap (λ y. leaves y (putIn (scoresFor q) xs)) (o ∙ ap (λ bs. laid (q .terms) l (swept q bs l)) (none-listed (blockCount q))))
+
+    -- and no score is left a NaN
+    pub whole-search : Slices q → (f : Left) (ys : List Float) → ys ≡ putIn (scoresFor q) xs
+        → f ≡ probed (q .k) (q .factor) (q .terms) (q .postings) (q .offsets) (take (blockCount q) ys) (listed (take 0 (q .postings)) (blockCount q)) l
+        → (leaves f ys ≡ searched q l xs) × (numbersLeft (f .answer) (blockCount q) ys (f .lent .kept) ≡ true)
+    whole-search s f ys p g = let w = accepted-search f ys p g in (w, searched-numbers q s l xs f ys w)
 
 -- ---- a search by score
 module _ (q : Question) (l : Lends) (xs : List Float) (bs : List ℕ) (v : Verdict) (e : v ≡ firstOf (tests q l (orderPlaces q xs bs))) where
@@ -132,7 +139,7 @@ module _ (q : Question) (l : Lends) (xs : List Float) (bs : List ℕ) (v : Verdi
         let p = both (scorePlaces q xs) (leb (blockCount q) (length bs)) (block-places q l (orderPlaces q xs bs) v e h) in
         (leb-true (blockCount q) (length xs) (p .0), leb-true (blockCount q) (length bs) (p .1))
 
-    pub accepted-in-order : (f : Left) (ys : List Float) (os : List ℕ) → ys ≡ putIn (scoresFor q) xs → os ≡ putIn (byScore (scoresFor q)) bs
+    accepted-in-order : (f : Left) (ys : List Float) (os : List ℕ) → ys ≡ putIn (scoresFor q) xs → os ≡ putIn (byScore (scoresFor q)) bs
         → f ≡ probed (q .k) (q .factor) (q .terms) (q .postings) (q .offsets) (take (blockCount q) ys) (listed (take (blockCount q) os) (blockCount q)) l → leavesInOrder f ys os ≡ searchedInOrder q l xs bs
     unfolding searchedInOrder
     accepted-in-order f ys os p r g =
@@ -145,6 +152,11 @@ module _ (q : Question) (l : Lends) (xs : List Float) (bs : List ℕ) (v : Verdi
         (ap (λ y. leavesInOrder f y os) p ∙ ap (λ y. leavesInOrder f (putIn (scoresFor q) xs) y) r
         ∙ ap (λ y. leavesInOrder y (putIn (scoresFor q) xs) (putIn (byScore (scoresFor q)) bs))
         (o ∙ ap (λ y. laid (q .terms) l (swept q y l)) (ap (λ y. listed y (blockCount q)) t ∙ all-listed (byScore (scoresFor q)) (blockCount q) n)))
+
+    pub whole-in-order : Slices q → (f : Left) (ys : List Float) (os : List ℕ) → ys ≡ putIn (scoresFor q) xs → os ≡ putIn (byScore (scoresFor q)) bs
+        → f ≡ probed (q .k) (q .factor) (q .terms) (q .postings) (q .offsets) (take (blockCount q) ys) (listed (take (blockCount q) os) (blockCount q)) l
+        → (leavesInOrder f ys os ≡ searchedInOrder q l xs bs) × (numbersLeft (f .answer) (blockCount q) ys (f .lent .kept) ≡ true)
+    whole-in-order s f ys os p r g = let w = accepted-in-order f ys os p r g in (w, ordered-numbers q s l xs bs f ys os w)
 
 -- ---- scores and order
 pub scored-and-ordered : (y : Layout) (query : List Term) (n : ℕ) (xs ys : List Float) (bs part : List ℕ) → n ≡ length (y .minimums) → length (y .minimums) ≡ length (y .steps) → n ≤ length xs → n ≤ length bs

@@ -63,30 +63,26 @@ probe-off g (i ∷ is) s t r j e = go (outcome g (s .visits) i) (probe-off g is)
         let w = h (state (keep better (g .k) f (s .kept)) (set (s .visits) (startAt g i) 1) (s .evaluated + 1) (s .skipped)) t r j e in
         (at i (found f) ∷ w .0, ap (λ l. at i (found f) ∷ l) (w .1))
 
+pub block-is : (g : Given) (b : ℕ) (s : State) (x : Bool) → blockOf (cond x (skippedBlock b) (probedBlock b (events g (positions g b) (s .visits)))) ≡ b
+block-is g b s true = refl
+block-is g b s false = refl
+
 pub turns-in-order : (g : Given) (bs : List ℕ) (s : State) → map blockOf (turns g bs s) ≡ take (length (turns g bs s)) bs
 turns-in-order g [] s = refl
 turns-in-order g (b ∷ bs) s = go (turn g b s) (turns-in-order g bs)
   where
-    block-is : (x : Bool) → blockOf (cond x (skippedBlock b) (probedBlock b (events g (positions g b) (s .visits)))) ≡ b
-    block-is true = refl
-    block-is false = refl
-
     go : (r : Reached) → ((s : State) → map blockOf (turns g bs s) ≡ take (length (turns g bs s)) bs)
         → map blockOf (turnOf g b s ∷ unlessStops r (turns g bs)) ≡ take (length (turnOf g b s ∷ unlessStops r (turns g bs))) (b ∷ bs)
-    go (goesOn t) h = let k = block-is (skips g (s .kept) b) in let m = h t in cc
-    go (stopsAt r i t) h = let k = block-is (skips g (s .kept) b) in cc
+    go (goesOn t) h = let k = block-is g b s (skips g (s .kept) b) in let m = h t in cc
+    go (stopsAt r i t) h = let k = block-is g b s (skips g (s .kept) b) in cc
 
 pub turns-all : (g : Given) (bs : List ℕ) (s t : State) → sweep g bs s ≡ goesOn t → map blockOf (turns g bs s) ≡ bs
 turns-all g [] s t e = refl
 turns-all g (b ∷ bs) s t e = go (turn g b s) (turns-all g bs) e
   where
-    block-is : (x : Bool) → blockOf (cond x (skippedBlock b) (probedBlock b (events g (positions g b) (s .visits)))) ≡ b
-    block-is true = refl
-    block-is false = refl
-
     go : (r : Reached) → ((s t : State) → sweep g bs s ≡ goesOn t → map blockOf (turns g bs s) ≡ bs)
         → andThen r (sweep g bs) ≡ goesOn t → map blockOf (turnOf g b s ∷ unlessStops r (turns g bs)) ≡ b ∷ bs
-    go (goesOn w) h e = let k = block-is (skips g (s .kept) b) in let m = h w t e in cc
+    go (goesOn w) h e = let k = block-is g b s (skips g (s .kept) b) in let m = h w t e in cc
     go (stopsAt r i w) h e = cc
 
 -- a turn after which the search went on has no stop in it
@@ -130,7 +126,7 @@ no-stop-on g (b ∷ bs) s t o (v ∷ p) u q e = go (turn g b s) (no-stop-on g bs
     go (stopsAt r i w) h o f = absurd (nil-cut p u q f)
 
 -- a search that stops has the stop for its last event
-turn-off : (g : Given) (b : ℕ) (s t : State) (r : Refusal) (i : Place) → turn g b s ≡ stopsAt r i t → (x : List Event) × (turnOf g b s ≡ probedBlock b (x ++ (at i (stopped r) ∷ [])))
+pub turn-off : (g : Given) (b : ℕ) (s t : State) (r : Refusal) (i : Place) → turn g b s ≡ stopsAt r i t → (x : List Event) × (turnOf g b s ≡ probedBlock b (x ++ (at i (stopped r) ∷ [])))
 turn-off g b s t r i e = go (skips g (s .kept) b) e
   where
     no : goesOn (passOver s) ≡ stopsAt r i t → ⊥

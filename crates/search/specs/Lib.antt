@@ -6,6 +6,11 @@ pub mod Told
 pub mod Moments
 pub mod InOrder
 pub mod Once
+pub mod Fates
+pub mod Fated
+pub mod Accepted
 pub mod Promises
 pub mod Scores
+pub mod KeptNumbers
+pub mod Numbers
 pub mod Worked

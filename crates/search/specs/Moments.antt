@@ -1,16 +1,37 @@
 -- Each turn and each event of a story is right at its moment. Assumes nothing.
 use Prim.Native.Nat.{ℕ, _+_}
+use native.Mathlib.Omega.{arith}
 use mathlib.Core.Path.{_≡_, refl, ap, _∙_, subst}
 use mathlib.Core.Bool.{Bool, true, false, cond}
 use mathlib.Core.List.{List, [], _∷_, _++_, head-eq-of-cons-eq, tail-eq-of-cons-eq}
-use lib.ListN.{set}
-use Rattle.probing.specs.Probing.{Place, Given, State, Outcome, passed, stopped, found, outcome, startAt, Reached, goesOn, stopsAt, skips, positions, turn}
+use mathlib.Core.Logic.{_↔_}
+use lib.ListN.{getD, set}
+use lib.Dec.{eqb}
+use borrow.Author.Tests.{eq-eqb, ne-eqb}
+use Rattle.probing.specs.declared.RangeReading.{RangeReading}
+use Rattle.probing.specs.declared.RangeReading.the-variants.{ReachesPast, Breaks, Score}
+use Rattle.probing.specs.Probing.{Place, Given, State, Outcome, passed, stopped, found, ofReading, outcome, packedAt, startAt, Reached, goesOn, stopsAt, skips, positions, turn}
 use Rattle.search.specs.Trace.{Event, at, Turn, skippedBlock, probedBlock, unlessStopped, marking, events, unlessStops, turnOf, turns, startsOf, marked, after}
 use Rattle.search.specs.Told.{nil-cut, turn-then}
 
 -- an event is what its posting gives, the visit bytes being what they are at that moment
 abbrev pub EventRight : Given → List ℕ → Event → Type 0
 EventRight g visits (at i o) = outcome g visits i ≡ o
+
+-- passed exactly when the byte of its start is not 0
+pub passed-iff : (g : Given) (visits : List ℕ) (i : Place) → (outcome g visits i ≡ passed) ↔ (getD visits (startAt g i) 0 ≡ 0 → ⊥)
+passed-iff g visits i = (there, back)
+  where
+    clash : (r : RangeReading) → ofReading (packedAt g i) r ≡ passed → ⊥
+    clash ReachesPast h = let z : _≡_ {A = ℕ} 0 1 = cc in omega arith
+    clash Breaks h = let z : _≡_ {A = ℕ} 0 1 = cc in omega arith
+    clash (Score x) h = let z : _≡_ {A = ℕ} 0 1 = cc in omega arith
+
+    there : outcome g visits i ≡ passed → getD visits (startAt g i) 0 ≡ 0 → ⊥
+    there h z = let e : eqb (getD visits (startAt g i) 0) 0 ≡ true = eq-eqb (getD visits (startAt g i) 0) 0 z in clash (g .read (packedAt g i)) (rw e at h)
+
+    back : (getD visits (startAt g i) 0 ≡ 0 → ⊥) → outcome g visits i ≡ passed
+    back h = let e : eqb (getD visits (startAt g i) 0) 0 ≡ false = ne-eqb (getD visits (startAt g i) 0) 0 h in rw e
 
 -- a turn is what the skip test says, with what is kept at that moment
 abbrev pub TurnRight : Given → State → Turn → Type 0

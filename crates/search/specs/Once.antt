@@ -3,11 +3,11 @@ use Prim.Native.Nat.{ℕ, _+_, _<_}
 use native.Mathlib.Omega.{arith}
 use mathlib.Core.Path.{_≡_, refl, sym, ap, _∙_, subst}
 use mathlib.Core.Bool.{Bool, true, false, not, _&&_, _||_, cond, true≢false}
-use mathlib.Core.List.{List, [], _∷_, _++_}
+use mathlib.Core.List.{List, [], _∷_, _++_, map}
 use lib.ListN.{length, getD, set, length-set}
 use lib.Seq.{getD-set-same, getD-set-other}
 use lib.Dec.{eqb}
-use borrow.Author.Tests.{eqb-true, eqb-false}
+use borrow.Author.Tests.{eqb-true, eqb-false, eq-eqb}
 use Rattle.lists.specs.Lists.{among}
 use Rattle.refusal.specs.declared.Refusal.{Refusal}
 use Rattle.refusal.specs.declared.Refusal.the-variants.{PastTheTerms, WrongTerms}
@@ -15,7 +15,7 @@ use Rattle.kept_list.specs.declared.Scored.{Scored}
 use Rattle.probing.specs.declared.RangeReading.{RangeReading}
 use Rattle.probing.specs.declared.RangeReading.the-variants.{ReachesPast, Breaks, Score}
 use Rattle.probing.specs.Probing.{Place, Given, State, Outcome, passed, stopped, found, outcome, ofReading, packedAt, startAt, Reached, goesOn, stopsAt, probe, skips, positions, passOver, left}
-use Rattle.search.specs.Trace.{Event, at, skippedBlock, probedBlock, unlessStopped, marking, events, unlessStops, turns, startsOf, eventsOf, distinct, marked}
+use Rattle.search.specs.Trace.{Event, at, skippedBlock, probedBlock, unlessStopped, marking, events, unlessStops, turns, startsOf, placesOf, eventsOf, distinct, marked}
 use Rattle.search.specs.Told.{probe-told}
 use Rattle.search.specs.Moments.{EventRight}
 
@@ -106,6 +106,39 @@ all-different g visits (at i (found e) ∷ es) room a =
         → distinct (startsOf g es) ≡ true → (not b && distinct (startsOf g es)) ≡ true
     go true f d = absurd (one (sym (getD-set-same visits (startAt g i) 1 0 (found-fresh g visits i e room (a .0) .1)) ∙ f refl .1))
     go false f d = d
+
+-- ---- postings whose starts differ are not the same
+starts-of-places : (g : Given) (es : List Event) → startsOf g es ≡ map (startAt g) (placesOf es)
+starts-of-places g [] = refl
+starts-of-places g (at i passed ∷ es) = starts-of-places g es
+starts-of-places g (at i (stopped r) ∷ es) = starts-of-places g es
+starts-of-places g (at i (found e) ∷ es) = ap (λ l. startAt g i ∷ l) (starts-of-places g es)
+
+among-map : (f : ℕ → ℕ) (n : ℕ) (ns : List ℕ) → among (f n) (map f ns) ≡ false → among n ns ≡ false
+among-map f n [] h = refl
+among-map f n (m ∷ ms) h = go (eqb n m) refl (among-map f n ms)
+  where
+    same : eqb n m ≡ true → eqb (f n) (f m) ≡ true
+    same e = eq-eqb (f n) (f m) (ap f (eqb-true n m e))
+
+    go : (b : Bool) → eqb n m ≡ b → (among (f n) (map f ms) ≡ false → among n ms ≡ false) → (b || among n ms) ≡ false
+    go true e k = absurd (true≢false (sym (ap (λ z. z || among (f n) (map f ms)) (same e)) ∙ h))
+    go false e k = k (or-false (eqb (f n) (f m)) (among (f n) (map f ms)) h)
+      where
+        or-false : (a b : Bool) → (a || b) ≡ false → b ≡ false
+        or-false true b h = absurd (true≢false h)
+        or-false false b h = h
+
+distinct-map : (f : ℕ → ℕ) (ns : List ℕ) → distinct (map f ns) ≡ true → distinct ns ≡ true
+distinct-map f [] h = refl
+distinct-map f (n ∷ ns) h = go (among (f n) (map f ns)) refl h (distinct-map f ns)
+  where
+    go : (b : Bool) → among (f n) (map f ns) ≡ b → (not b && distinct (map f ns)) ≡ true → (distinct (map f ns) ≡ true → distinct ns ≡ true) → (not (among n ns) && distinct ns) ≡ true
+    go true e h k = absurd (true≢false (sym h))
+    go false e h k = rw (among-map f n ns e) (k h)
+
+pub places-differ : (g : Given) (es : List Event) → distinct (startsOf g es) ≡ true → distinct (placesOf es) ≡ true
+places-differ g es h = distinct-map (startAt g) (placesOf es) (ap distinct (sym (starts-of-places g es)) ∙ h)
 
 -- ---- the visit bytes, one by one
 pub marked-at : (visits ns : List ℕ) (n : ℕ) → n < length visits → getD (marked visits ns) n 0 ≡ cond (among n ns) 1 (getD visits n 0)

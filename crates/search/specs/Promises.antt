@@ -1,5 +1,5 @@
 -- What a search promises, told by its story, with no mention of how it goes about it. Assumes nothing.
-use Prim.Native.Nat.{ℕ, _+_, _-_, _≤_, _<_}
+use Prim.Native.Nat.{ℕ, _+_, _≤_, _<_}
 use mathlib.Core.Path.{_≡_, refl, sym, ap, _∙_, subst}
 use mathlib.Core.Bool.{Bool, true, false, not, _&&_, _||_, cond, true≢false}
 use mathlib.Core.List.{List, [], _∷_, _++_, map, List·Permᴰ}
@@ -7,38 +7,35 @@ use lib.ListN.{length, getD, take}
 use lib.Seq.{length-take-le}
 use lib.Ieee.{Float, nan, binary32, lt, mul}
 use lib.Dec.{eqb, leb, ltb}
-use borrow.Author.Tests.{eqb-true, eq-eqb, ne-eqb, leb-true, leb-false, ltb-true, le-leb, not-false}
+use borrow.Author.Tests.{eqb-true, eq-eqb, ne-eqb, leb-false, ltb-true, le-leb, not-false}
 use native.Mathlib.Omega.{arith}
-use Rattle.lists.specs.Lists.{every, from, part}
+use Rattle.lists.specs.Lists.{from, among}
 use Rattle.lists.specs.Sorted.{InOrder, sort-in-order, sort-permutes}
 use Rattle.refusal.specs.declared.Verdict.the-variants.{Accepted}
 use Rattle.refusal.specs.First.{firstOf, Faultless, faultless}
 use Rattle.float32.specs.Order.{atMost}
-use Rattle.packing.specs.Packing.{startOf, lengthOf}
-use Rattle.page.specs.Reading.{reading}
-use Rattle.kept_list.specs.Lent.{Lent, entries, places}
-use Rattle.kept_list.specs.Laid.{length-beside, entries-written}
-use Rattle.kept_list.specs.Push.{isNumber, sound, wellKept}
-use Rattle.probing.specs.Ranges.{ofPage, rangeReading}
-use Rattle.probing.specs.Probed.{Terms, readIn, Lends, bytesOf, restOf, laid, opened}
+use Rattle.kept_list.specs.Lent.{entries, places}
+use Rattle.kept_list.specs.Laid.{entries-written}
+use Rattle.kept_list.specs.Push.{wellKept}
+use Rattle.probing.specs.Probed.{Lends, bytesOf, restOf, laid, opened}
 use Rattle.search.specs.Order.{scoreAt, noLater, byScore}
 use Rattle.search.specs.Searched.{Question, givenFor, swept, room, tests}
-use mathlib.Core.Logic.{_↔_}
-use Rattle.lists.specs.Lists.{among}
+use mathlib.Core.Logic.{_↔_, _⊎_, inl, inr}
 use Rattle.refusal.specs.declared.Refusal.{Refusal}
 use Rattle.kept_list.specs.declared.Scored.{Scored}
 use Rattle.kept_list.specs.Keep.{keepAll, kBest, inOrder}
 use Rattle.kept_list.specs.Best.{k-best}
 use Rattle.kept_list.specs.Order.{both}
 use Rattle.kept_list.specs.Entry.{better, better-order}
-use Rattle.probing.specs.declared.RangeReading.{RangeReading}
-use Rattle.probing.specs.declared.RangeReading.the-variants.{ReachesPast, Breaks, Score}
-use Rattle.probing.specs.Probing.{Place, ofReading, packedAt, worst, Given, State, Outcome, passed, stopped, found, outcome, startAt, Reached, goesOn, stopsAt, skips, positions, sweep, left}
-use Rattle.search.specs.Trace.{Event, at, Turn, skippedBlock, probedBlock, events, turns, entriesOf, startsOf, positionOf, blockOf, eventsOf, skippedIn, distinct, marked, after}
+use Rattle.probing.specs.Probing.{Place, packedAt, worst, Given, State, Outcome, passed, stopped, found, outcome, startAt, Reached, goesOn, stopsAt, skips, positions, sweep, left}
+use Rattle.search.specs.Trace.{Event, at, Turn, skippedBlock, probedBlock, events, turns, entriesOf, startsOf, placesOf, positionOf, blockOf, eventsOf, skippedIn, distinct, marked, after}
 use Rattle.search.specs.Told.{sweep-told, marked-events}
-use Rattle.search.specs.Moments.{EventRight, TurnRight, event-right, turn-right}
+use Rattle.search.specs.Moments.{passed-iff, event-right, turn-right}
 use Rattle.search.specs.InOrder.{events-in-order, events-all, turns-in-order, turns-all, stopsIn, no-stop-before, no-stop-on, stop-is-last}
-use Rattle.search.specs.Once.{HasBytes, all-right, fresh, all-different, marked-at}
+use Rattle.search.specs.Once.{HasBytes, all-right, fresh, all-different, places-differ, marked-at}
+use Rattle.search.specs.Fates.{Posting, Evaluated, InSkipped, VisitedBefore, StoppedBefore}
+use Rattle.search.specs.Fated.{Fate, isEvaluated, isSkipped, isPassed, isStopped, fate, visited-since}
+use Rattle.search.specs.Accepted.{kept-sound, score-ends}
 
 pub record Promises (g : Given) (bs : List ℕ) (s : State) (r : Reached) : Type 0 where
   -- what happened: the turns, each skipped or probed, with what each posting of a probed block gave
@@ -57,9 +54,12 @@ pub record Promises (g : Given) (bs : List ℕ) (s : State) (r : Reached) : Type
   -- each gives what its visit byte and its reading say at that moment: passed if visited, else 13, 14 or its score
   pub gives : (p : List Turn) (b : ℕ) (x : List Event) (i : Place) (o : Outcome) (y : List Event) (q : List Turn) → story ≡ p ++ (probedBlock b (x ++ (at i o ∷ y)) ∷ q)
       → outcome g (marked (s .visits) (startsOf g (eventsOf p ++ x))) i ≡ o
-  -- the evaluated starts were unvisited at first, and no two are the same
+  -- the evaluated starts were unvisited at first, and no two are the same: over the whole search no start is evaluated twice, nor a posting
   pub unvisited : (n : ℕ) → among n (startsOf g (eventsOf story)) ≡ true → (n < length (s .visits)) × (getD (s .visits) n 0 ≡ 0)
   pub different : distinct (startsOf g (eventsOf story)) ≡ true
+  pub once : distinct (placesOf (eventsOf story)) ≡ true
+  -- a posting that was not evaluated is in a skipped block, or its start was visited before it was reached, or the search stopped before it
+  pub not-evaluated : (p : Posting g bs) → (Evaluated g bs story p → ⊥) → InSkipped g bs story p ⊎ (VisitedBefore g bs s story p ⊎ StoppedBefore g bs r story p)
   -- what is kept are the k best of the entries brought in and of all evaluated
   pub keeps-best : (left r) .kept ≡ kBest better (g .k) (s .kept ++ entriesOf (eventsOf story))
   -- the evaluated starts are marked 1, and no other byte changes
@@ -71,9 +71,44 @@ pub record Promises (g : Given) (bs : List ℕ) (s : State) (r : Reached) : Type
   -- a search that stops, stops at the last posting it reached
   pub stops-last : (n : Refusal) (i : Place) (t : State) → r ≡ stopsAt n i t → (p : List Turn) × (b : ℕ) × (x : List Event) × (story ≡ p ++ (probedBlock b (x ++ (at i (stopped n) ∷ [])) ∷ []))
 
+-- ---- the skip test in plain words
+-- skipped exactly when k are kept and score < factor x worst kept score
+pub skips-iff : (g : Given) (kept : List Scored) (b : ℕ)
+    → (skips g kept b ≡ true) ↔ ((length kept ≡ g .k) × (lt (getD (g .blockScores) b nan) (mul binary32 (g .factor) (worst kept)) ≡ true))
+skips-iff g kept b = (
+  (λ h. let s = both (eqb (length kept) (g .k)) (lt (getD (g .blockScores) b nan) (mul binary32 (g .factor) (worst kept))) h in (eqb-true (length kept) (g .k) (s .0), s .1)),
+  (λ h. let e : eqb (length kept) (g .k) ≡ true = eq-eqb (length kept) (g .k) (h .0) in rw (e, h .1)),
+)
+
+-- ---- a sweep keeps them
 module _ (g : Given) (bs : List ℕ) (s : State) (sorted : inOrder better (s .kept) ≡ true) (few : length (s .kept) ≤ g .k) (bytes : HasBytes g (s .visits)) where
   kept-after : (p : List Turn) → (after g s p) .kept ≡ kBest better (g .k) (s .kept ++ entriesOf (eventsOf p))
   kept-after p = k-best better better-order (g .k) (s .kept) (entriesOf (eventsOf p)) sorted few
+
+  gives-at : (p : List Turn) (b : ℕ) (x : List Event) (i : Place) (o : Outcome) (y : List Event) (q : List Turn) → turns g bs s ≡ p ++ (probedBlock b (x ++ (at i o ∷ y)) ∷ q)
+      → outcome g (marked (s .visits) (startsOf g (eventsOf p ++ x))) i ≡ o
+  gives-at p b x i o y q e =
+      subst (λ l. outcome g l i ≡ o) (sym (marked-events g (s .visits) (eventsOf p) x))
+      (event-right g (positions g b) ((after g s p) .visits) x (at i o) y (sym (turn-right g bs s p (probedBlock b (x ++ (at i o ∷ y))) q e .1)))
+
+  fate-of : (p : Posting g bs) → Fate (turns g bs s) (sweep g bs s) (p .blocksBefore) (p .block) (p .placesBefore) (p .place)
+  fate-of p =
+      subst (λ cs. Fate (turns g cs s) (sweep g cs s) (p .blocksBefore) (p .block) (p .placesBefore) (p .place)) (sym (p .in-list))
+      (fate g (p .blocksBefore) (p .block) (p .blocksAfter) (p .placesBefore) (p .place) (p .placesAfter) (p .in-block) s)
+
+  not-evaluated-so : (p : Posting g bs) → (Evaluated g bs (turns g bs s) p → ⊥)
+      → InSkipped g bs (turns g bs s) p ⊎ (VisitedBefore g bs s (turns g bs s) p ⊎ StoppedBefore g bs (sweep g bs s) (turns g bs s) p)
+  not-evaluated-so p n = go (fate-of p)
+    where
+      go : Fate (turns g bs s) (sweep g bs s) (p .blocksBefore) (p .block) (p .placesBefore) (p .place)
+          → InSkipped g bs (turns g bs s) p ⊎ (VisitedBefore g bs s (turns g bs s) p ⊎ StoppedBefore g bs (sweep g bs s) (turns g bs s) p)
+      go (isEvaluated e m) = absurd (n (e, m))
+      go (isSkipped m) = inl m
+      go (isPassed m) =
+          let ns = startsOf g (eventsOf (m .turnsBefore) ++ m .eventsBefore) in
+          let o = gives-at (m .turnsBefore) (p .block) (m .eventsBefore) (p .place) passed (m .eventsAfter) (m .turnsAfter) (m .told) in
+          inr (inl (m, visited-since (s .visits) ns (startAt g (p .place)) (passed-iff g (marked (s .visits) ns) (p .place) .0 o)))
+      go (isStopped m) = inr (inr m)
 
   pub sweep-promises : Promises g bs s (sweep g bs s)
   sweep-promises = record {
@@ -86,11 +121,11 @@ module _ (g : Given) (bs : List ℕ) (s : State) (sorted : inOrder better (s .ke
     reached-all = λ p b es q e h. let k = turn-right g bs s p (probedBlock b es) q e .1 in ap (map positionOf) k ∙ events-all g (positions g b) ((after g s p) .visits) (ap stopsIn (sym k) ∙ h);
     goes-on = λ p b es u q e. no-stop-before g bs s p (probedBlock b es) u q e;
     goes-through = λ t o p b es q e. no-stop-on g bs s t o p (probedBlock b es) q e;
-    gives = λ p b x i o y q e.
-        subst (λ l. outcome g l i ≡ o) (sym (marked-events g (s .visits) (eventsOf p) x))
-        (event-right g (positions g b) ((after g s p) .visits) x (at i o) y (sym (turn-right g bs s p (probedBlock b (x ++ (at i o ∷ y))) q e .1)));
+    gives = gives-at;
     unvisited = fresh g (s .visits) (eventsOf (turns g bs s)) bytes (all-right g bs s);
     different = all-different g (s .visits) (eventsOf (turns g bs s)) bytes (all-right g bs s);
+    once = places-differ g (eventsOf (turns g bs s)) (all-different g (s .visits) (eventsOf (turns g bs s)) bytes (all-right g bs s));
+    not-evaluated = not-evaluated-so;
     keeps-best = ap (λ (t : State). t .kept) (sweep-told g bs s) ∙ kept-after (turns g bs s);
     marks = ap (λ (t : State). t .visits) (sweep-told g bs s);
     marks-at = λ n h. ap (λ (t : State). getD (t .visits) n 0) (sweep-told g bs s) ∙ marked-at (s .visits) (startsOf g (eventsOf (turns g bs s))) n h;
@@ -99,51 +134,7 @@ module _ (g : Given) (bs : List ℕ) (s : State) (sorted : inOrder better (s .ke
     stops-last = λ n i t e. stop-is-last g bs s t n i e;
   }
 
--- ---- the two tests in plain words
--- skipped exactly when k are kept and score < factor x worst kept score
-pub skips-iff : (g : Given) (kept : List Scored) (b : ℕ)
-    → (skips g kept b ≡ true) ↔ ((length kept ≡ g .k) × (lt (getD (g .blockScores) b nan) (mul binary32 (g .factor) (worst kept)) ≡ true))
-skips-iff g kept b = (
-  (λ h. let s = both (eqb (length kept) (g .k)) (lt (getD (g .blockScores) b nan) (mul binary32 (g .factor) (worst kept))) h in (eqb-true (length kept) (g .k) (s .0), s .1)),
-  (λ h. let e : eqb (length kept) (g .k) ≡ true = eq-eqb (length kept) (g .k) (h .0) in rw (e, h .1)),
-)
-
--- passed exactly when the byte of its start is not 0
-pub passed-iff : (g : Given) (visits : List ℕ) (i : Place) → (outcome g visits i ≡ passed) ↔ (getD visits (startAt g i) 0 ≡ 0 → ⊥)
-passed-iff g visits i = (there, back)
-  where
-    clash : (r : RangeReading) → ofReading (packedAt g i) r ≡ passed → ⊥
-    clash ReachesPast h = let z : _≡_ {A = ℕ} 0 1 = cc in omega arith
-    clash Breaks h = let z : _≡_ {A = ℕ} 0 1 = cc in omega arith
-    clash (Score x) h = let z : _≡_ {A = ℕ} 0 1 = cc in omega arith
-
-    there : outcome g visits i ≡ passed → getD visits (startAt g i) 0 ≡ 0 → ⊥
-    there h z = let e : eqb (getD visits (startAt g i) 0) 0 ≡ true = eq-eqb (getD visits (startAt g i) 0) 0 z in clash (g .read (packedAt g i)) (rw e at h)
-
-    back : (getD visits (startAt g i) 0 ≡ 0 → ⊥) → outcome g visits i ≡ passed
-    back h = let e : eqb (getD visits (startAt g i) 0) 0 ≡ false = ne-eqb (getD visits (startAt g i) 0) 0 h in rw e
-
 -- ---- an accepted search keeps all of this, in whatever order its blocks have their turns
-kept-sound : (k : ℕ) (m : Lent) → wellKept k m ≡ true → (inOrder better (entries m) ≡ true) × (length (entries m) ≤ k)
-unfolding wellKept
-kept-sound k m w =
-    let a = both (leb (m .size) k && places (m .size) m) (sound (entries m)) w in
-    let b = both (leb (m .size) k) (places (m .size) m) (a .0) in
-    let p = both (leb (m .size) (length (m .packed))) (leb (m .size) (length (m .scores))) (b .1) in
-    let n = length-beside (m .size) (m .packed) (m .scores) (leb-true (m .size) (length (m .packed)) (p .0)) (leb-true (m .size) (length (m .scores)) (p .1)) in
-    let l = leb-true (m .size) k (b .0) in
-    (both (inOrder better (entries m)) (every isNumber (entries m)) (a .1) .0, omega arith)
-
--- a range that has a score ends within the terms
-score-ends : (t : Terms) (p : ℕ) (x : Float) → readIn t p ≡ Score x → startOf p ≤ length (t .components)
-unfolding rangeReading
-score-ends t p x h = at (leb (startOf p + lengthOf p) (length (t .components))) refl h
-  where
-    at : (b : Bool) → leb (startOf p + lengthOf p) (length (t .components)) ≡ b
-        → cond b (ofPage (reading (t .queryComponents) (t .queryValues) (part (startOf p) (startOf p + lengthOf p - startOf p) (t .components)) (part (startOf p) (startOf p + lengthOf p - startOf p) (t .values)))) ReachesPast ≡ Score x → startOf p ≤ length (t .components)
-    at true e h = let z = leb-true (startOf p + lengthOf p) (length (t .components)) e in omega arith
-    at false e h = let z : _≡_ {A = ℕ} 0 1 = cc in omega arith
-
 module _ (q : Question) (l : Lends) (b : Bool) (accepted : firstOf (tests q l b) ≡ Accepted) where
   faults : Faultless (tests q l b)
   faults = faultless (tests q l b) accepted

@@ -1,25 +1,27 @@
--- The scores of an accepted search are sums from +0 over the query's components, and never a NaN: of blocks, and of pages. Assumes nothing.
-use Prim.Native.Nat.{ℕ, zero, suc, _*_, _^_, _≤_, _<_, min}
+-- The scores of an accepted search are sums from +0 over the query's components, and never a NaN: of blocks, where the stored arrays are
+-- f32 and bytes as their types say, and of pages, whatever they hold. Assumes nothing.
+use Prim.Native.Nat.{ℕ, _*_, _^_, _≤_, _<_, min}
+use native.Mathlib.Nat.{le-trans, le-of-eq, mul-le-mul, mul-le-mul-right, mul-pos}
 use native.Mathlib.Omega.{arith}
 use mathlib.Core.Path.{_≡_, refl, sym, ap, _∙_, subst}
-use mathlib.Core.Bool.{Bool, true, false, not, _&&_, cond}
+use mathlib.Core.Bool.{Bool, true, false, not, _&&_, cond, true≢false}
 use mathlib.Core.List.{List, [], _∷_, _++_, map}
-use lib.ListN.{length, getD}
-use lib.Dec.{T, eqb, lit≤}
-use lib.IntN.{pos}
-use lib.Ieee.{Float, fin, nan, binary32, fits, isNan, add, mul}
-use borrow.Author.Tests.{not-false}
-use Rattle.lists.specs.Lists.{EachOf, those, every, joined, strictlyRise}
+use lib.ListN.{length}
+use lib.Dec.{T, leb, eqb, lit≤}
+use lib.Ieee.{Float, fin, inf, nan, binary32, isNan, mul, up, down, unlike}
+use lib.Ieee.Fits.{down-pos}
+use borrow.Author.Tests.{not-false, leb-true}
+use Rattle.lists.specs.Lists.{EachOf, those, every, strictlyRise}
 use Rattle.refusal.specs.declared.Verdict.the-variants.{Accepted}
 use Rattle.refusal.specs.First.{firstOf, faultless}
-use Rattle.float32.specs.Bound.{inBound, Bounded}
-use Rattle.float32.specs.BoundLaws.{in-bound-bounded}
-use Rattle.float32.specs.Sums.{Within, within-no-nan, wider, product-within}
+use Rattle.float32.specs.Units.{one}
+use Rattle.float32.specs.Bound.{inBound}
+use Rattle.float32.specs.Operations.{mul-by}
+use Rattle.float32.specs.Sums.{Within, within-no-nan, wider, round-within, power-room}
 use Rattle.documents.specs.Documents.{Term, paired, valuesAt, products, dot}
 use Rattle.documents.specs.Checks.{termsHold, slicesHold}
 use Rattle.documents.specs.Laws.{both}
-use Rattle.quantizing.specs.Extremes.{F32}
-use Rattle.quantized_summary.specs.Scores.{summaryCount, scoreOf, scoresOf}
+use Rattle.quantized_summary.specs.Scores.{scoreOf}
 use Rattle.quantized_summary.specs.Stays.{products-stay}
 use Rattle.quantized_summary.specs.WalkLaws.{scores-at}
 use Rattle.quantized_summary.specs.WellFormed.{wellFormed}
@@ -28,7 +30,7 @@ use Rattle.probing.specs.Probed.{Lends}
 use Rattle.search.specs.Order.{scoreAt}
 use Rattle.search.specs.Searched.{Question, blockCount, scoresFor, tests}
 
-abbrev queryOf : Question → List Term
+abbrev pub queryOf : Question → List Term
 queryOf q = paired (q .terms .queryComponents) (q .terms .queryValues)
 
 slices-bound : (cs : List ℕ) (vs : List Float) → slicesHold cs vs ≡ true → every (λ t. inBound (t .value)) (paired cs vs) ≡ true
@@ -51,23 +53,44 @@ module _ (q : Question) (l : Lends) (b : Bool) (accepted : firstOf (tests q l b)
       (score-no-nan (length (q .postings)) (q .offsets) (q .layout) (queryOf q) own
       (slices-bound (q .terms .queryComponents) (q .terms .queryValues) (not-false (slicesHold (q .terms .queryComponents) (q .terms .queryValues)) (faultless (tests q l b) accepted .1 .0))) typed s below)
 
--- ---- the score of a page
-abbrev AllBounded : List Term → Type 0
-AllBounded ts = EachOf (λ t. Bounded (t .value)) ts
+-- ---- the score of a page: its values and the query's are in their bound, so each product is at most 2 ^ 64
+units : 2 ^ 32 * 2 ^ 32 * one ≡ 1 * 2 ^ 213
+unfolding one
+units = refl
 
-bounded-all : (ts : List Term) → EachOf (λ t. F32 (t .value)) ts → every (λ t. inBound (t .value)) ts ≡ true → AllBounded ts
-bounded-all [] f h = tt
-bounded-all (t ∷ ts) f h = let p = both (inBound (t .value)) (every (λ t. inBound (t .value)) ts) h in (in-bound-bounded (t .value) (f .0) (p .0), bounded-all ts (f .1) (p .1))
+in-bound-product : (x y : Float) → inBound x ≡ true → inBound y ≡ true → Within (1 * 2 ^ 213) (mul binary32 x y)
+unfolding inBound
+in-bound-product nan y h k = absurd (true≢false (sym h))
+in-bound-product (inf s) y h k = absurd (true≢false (sym h))
+in-bound-product (fin s m e) nan h k = absurd (true≢false (sym k))
+in-bound-product (fin s m e) (inf t) h k = absurd (true≢false (sym k))
+in-bound-product (fin s m e) (fin t n d) h k =
+    subst (Within (1 * 2 ^ 213)) (sym (mul-by binary32 (fin s m e) (fin t n d) s t (m * up e) (down e) (n * up d) (down d) (down-pos e) (down-pos d) (refl, refl) (refl, refl)))
+    (round-within (unlike s t) (m * up e * (n * up d)) (down e * down d) 1 213 (mul-pos (down-pos e) (down-pos d)) (power-room 213 tt)
+    (within-room (m * up e) (n * up d) (down e) (down d) (leb-true (m * up e) (2 ^ 32 * down e) h) (leb-true (n * up d) (2 ^ 32 * down d) k)))
+  where
+    regroup : (p o c d : ℕ) → p * c * (p * d) * o ≡ p * p * o * (c * d)
+    regroup p o c d = omega arith
+
+    within-room : (a b c d : ℕ) → a ≤ 2 ^ 32 * c → b ≤ 2 ^ 32 * d → a * b * one ≤ 1 * 2 ^ 213 * (c * d)
+    within-room a b c d h k = le-trans (mul-le-mul-right one (mul-le-mul h k)) (le-of-eq (regroup (2 ^ 32) one c d ∙ ap (λ z. z * (c * d)) units))
+
+abbrev AllBounded : List Term → Type 0
+AllBounded ts = EachOf (λ t. inBound (t .value) ≡ true) ts
+
+bounded-all : (ts : List Term) → every (λ t. inBound (t .value)) ts ≡ true → AllBounded ts
+bounded-all [] h = tt
+bounded-all (t ∷ ts) h = let p = both (inBound (t .value)) (every (λ t. inBound (t .value)) ts) h in (p .0, bounded-all ts (p .1))
 
 abbrev Fine : Float → Type 0
 Fine x = Within (1 * 2 ^ 222) x
 
-values-within : (c : ℕ) (w : Float) (ts : List Term) → Bounded w → AllBounded ts → EachOf Fine (map (λ v. mul binary32 v w) (valuesAt c ts))
+values-within : (c : ℕ) (w : Float) (ts : List Term) → inBound w ≡ true → AllBounded ts → EachOf Fine (map (λ v. mul binary32 v w) (valuesAt c ts))
 values-within c w [] h e = tt
 values-within c w (t ∷ ts) h e = go (eqb (t .component) c) (values-within c w ts h (e .1))
   where
     go : (b : Bool) → EachOf Fine (map (λ v. mul binary32 v w) (valuesAt c ts)) → EachOf Fine (map (λ v. mul binary32 v w) (map (λ (u : Term). u .value) (cond b (t ∷ those (λ u. eqb (u .component) c) ts) (those (λ u. eqb (u .component) c) ts))))
-    go true i = (wider (1 * 2 ^ 213) (1 * 2 ^ 222) (mul binary32 (t .value) w) (lit≤ tt) (product-within (t .value) w (e .0) h), i)
+    go true i = (wider (1 * 2 ^ 213) (1 * 2 ^ 222) (mul binary32 (t .value) w) (lit≤ tt) (in-bound-product (t .value) w (e .0) h), i)
     go false i = i
 
 append-fine : (xs ys : List Float) → EachOf Fine xs → EachOf Fine ys → EachOf Fine (xs ++ ys)
@@ -78,9 +101,8 @@ products-fine : (query ts : List Term) → AllBounded query → AllBounded ts �
 products-fine [] ts e f = tt
 products-fine (q ∷ query) ts e f = append-fine (map (λ v. mul binary32 v (q .value)) (valuesAt (q .component) ts)) (products query ts) (values-within (q .component) (q .value) ts (e .0) f) (products-fine query ts (e .1) f)
 
-pub page-score-number : (qs : List ℕ) (ws : List Float) (cs : List ℕ) (vs : List Float) → slicesHold qs ws ≡ true → slicesHold cs vs ≡ true
-    → EachOf (λ t. F32 (t .value)) (paired qs ws) → EachOf (λ t. F32 (t .value)) (paired cs vs) → T (not (isNan (dot (paired qs ws) (paired cs vs))))
+pub page-score-number : (qs : List ℕ) (ws : List Float) (cs : List ℕ) (vs : List Float) → slicesHold qs ws ≡ true → slicesHold cs vs ≡ true → T (not (isNan (dot (paired qs ws) (paired cs vs))))
 unfolding dot
-page-score-number qs ws cs vs h k f g =
+page-score-number qs ws cs vs h k =
     within-no-nan (1 * 2 ^ 247) (dot (paired qs ws) (paired cs vs))
-    (products-stay (products (paired qs ws) (paired cs vs)) (products-fine (paired qs ws) (paired cs vs) (bounded-all (paired qs ws) f (slices-bound qs ws h)) (bounded-all (paired cs vs) g (slices-bound cs vs k))))
+    (products-stay (products (paired qs ws) (paired cs vs)) (products-fine (paired qs ws) (paired cs vs) (bounded-all (paired qs ws) (slices-bound qs ws h)) (bounded-all (paired cs vs) (slices-bound cs vs k))))

@@ -56,6 +56,13 @@ startsOf g (at i passed ∷ es) = startsOf g es
 startsOf g (at i (stopped r) ∷ es) = startsOf g es
 startsOf g (at i (found e) ∷ es) = startAt g i ∷ startsOf g es
 
+-- the positions of the evaluated postings
+abbrev pub placesOf : List Event → List Place
+placesOf [] = []
+placesOf (at i passed ∷ es) = placesOf es
+placesOf (at i (stopped r) ∷ es) = placesOf es
+placesOf (at i (found e) ∷ es) = i ∷ placesOf es
+
 abbrev pub positionOf : Event → Place
 positionOf (at i o) = i
 

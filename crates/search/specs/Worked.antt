@@ -37,6 +37,9 @@ half = f 0x3f000000
 abbrev one : Float
 one = f 0x3f800000
 
+abbrev two : Float
+two = f 0x40000000
+
 abbrev three : Float
 three = f 0x40400000
 
@@ -50,10 +53,13 @@ abbrev ten : Float
 ten = f 0x41200000
 
 -- six terms: the page at 0 scores 1, an empty page at 2 shares its start with the one that scores 3, the page at 3 scores 0, and the page at 4 breaks its rules
-abbrev asked : ℕ → List ℕ → List ℕ → Question
-asked k postings offsets =
-    question k half (terms (1 ∷ []) (one ∷ []) (1 ∷ 2 ∷ 1 ∷ 3 ∷ 5 ∷ 5 ∷ []) (one ∷ one ∷ three ∷ one ∷ one ∷ one ∷ [])) postings offsets
+abbrev askedBy : Float → ℕ → List ℕ → List ℕ → Question
+askedBy factor k postings offsets =
+    question k factor (terms (1 ∷ []) (one ∷ []) (1 ∷ 2 ∷ 1 ∷ 3 ∷ 5 ∷ 5 ∷ []) (one ∷ one ∷ three ∷ one ∷ one ∷ one ∷ [])) postings offsets
     (arrays (1 ∷ []) (0 ∷ 2 ∷ []) (0 ∷ 1 ∷ []) (5 ∷ 4 ∷ []) (zero ∷ zero ∷ []) (one ∷ one ∷ []))
+
+abbrev asked : ℕ → List ℕ → List ℕ → Question
+asked = askedBy half
 
 -- the pages
 abbrev first : ℕ
@@ -100,6 +106,9 @@ pub record Searches : Type 0 where
   -- the test is made at each block's turn: the first block fills the list, and 4 < 0.5 x 3 is false, so the second is evaluated too; the better entry replaces the worse
   pub replaces : searched (asked 1 (first ∷ second ∷ []) (0 ∷ 1 ∷ 2 ∷ [])) (holding 0 (7 ∷ []) (ten ∷ []) fresh) dots
       ≡ leaves (left (Found 1 2 0) (holding 1 (second ∷ []) (three ∷ []) (1 ∷ 0 ∷ 1 ∷ 0 ∷ 0 ∷ 0 ∷ 0 ∷ []))) scored
+  -- and with what is kept then: nothing is kept at first, the first block fills the list with 3, and 4 < 2 x 3, so the second is skipped
+  pub at-its-turn : searched (askedBy two 1 (second ∷ first ∷ []) (0 ∷ 1 ∷ 2 ∷ [])) (holding 0 (7 ∷ []) (ten ∷ []) fresh) dots
+      ≡ leaves (left (Found 1 1 1) (holding 1 (second ∷ []) (three ∷ []) (0 ∷ 0 ∷ 1 ∷ 0 ∷ 0 ∷ 0 ∷ 0 ∷ []))) scored
   -- a start met again is passed over, and so is one that was visited before the search
   pub met-again : searched (asked 2 (first ∷ first ∷ third ∷ []) (0 ∷ 3 ∷ 3 ∷ [])) (holding 0 (7 ∷ 8 ∷ []) (ten ∷ ten ∷ []) (0 ∷ 0 ∷ 0 ∷ 9 ∷ 0 ∷ 0 ∷ 0 ∷ [])) dots
       ≡ leaves (left (Found 1 1 0) (holding 1 (first ∷ 8 ∷ []) (one ∷ ten ∷ []) (1 ∷ 0 ∷ 0 ∷ 9 ∷ 0 ∷ 0 ∷ 0 ∷ []))) scored
@@ -142,6 +151,7 @@ worked-searches = record {
   half-of-worst = refl;
   not-full = refl;
   replaces = refl;
+  at-its-turn = refl;
   met-again = refl;
   hides = refl;
   stops-14 = refl;

@@ -2,7 +2,7 @@
 mod order;
 
 ghost use mathlib.Core.Path.{_≡_};
-ghost use mathlib.Core.Bool.{Bool, not, _&&_};
+ghost use mathlib.Core.Bool.{Bool, true, not, _&&_};
 ghost use mathlib.Core.List.{[], _∷_};
 ghost use Prim.Native.Nat.{_≤_};
 ghost use lib.ListN.{length as len};
@@ -17,6 +17,7 @@ ghost use Rattle.quantized_summary.specs.Scores.{scoresOf, putIn};
 ghost use Rattle.probing.specs.Probed.{terms, lends, left};
 ghost use Rattle.search.specs.Order.{byScore};
 ghost use Rattle.search.specs.Searched.{question, tests, leaves, leavesInOrder, searched, searchedInOrder};
+ghost use Rattle.search.specs.Numbers.{numbersLeft};
 use order::order_by_score;
 use probing::Answer;
 use refusal::Refusal;
@@ -80,7 +81,7 @@ fn admit(
     ensures { λ r. ⌜ r ≡ firstOf (tests (question k nan (terms (now (asked .entry)) (now (weights .entry)) (now (components .entry)) (now (values .entry))) (now (postings .entry)) (now (blocks .entry)) (arrays (now (present .entry)) (now (offsets .entry)) (now (ids .entry)) (now (codes .entry)) (now (minimums .entry)) (now (steps .entry))))
         (lends (lent length (now (packed .entry)) (now (scores .entry))) (now (visits .entry))) room) ⌝ }
 {
-    let query = documents::slices_hold(asked, weights);
+    let query = document_checks::slices_hold(asked, weights);
     let list = quantized_summary::is_well_formed(
         postings.len() as u64,
         blocks,
@@ -110,6 +111,7 @@ fn admit(
 //
 // Refused, with nothing changed, in this order: 11, 10, 6, 9, 12, 4. Stopped by 13 or 14 at a posting, which is named by its position;
 // the kept list and the marks stand then as after the postings before it. `dots` is left with the score of each block at its front.
+// Unless it was refused, no score of a block or of a kept entry is a NaN.
 pub fn search(
     asked: &[u32],
     weights: &[f32],
@@ -131,9 +133,10 @@ pub fn search(
     visits: &mut [u8],
     dots: &mut [f32],
 ) -> Answer
-    ensures { λ r. ⌜ leaves (left r (lends (lent (now (length .exit)) (now (packed .exit)) (now (scores .exit))) (now (visits .exit)))) (now (dots .exit))
+    ensures leaves { λ r. ⌜ leaves (left r (lends (lent (now (length .exit)) (now (packed .exit)) (now (scores .exit))) (now (visits .exit)))) (now (dots .exit))
         ≡ searched (question k factor (terms (now (asked .entry)) (now (weights .entry)) (now (components .entry)) (now (values .entry))) (now (postings .entry)) (now (blocks .entry)) (arrays (now (present .entry)) (now (offsets .entry)) (now (ids .entry)) (now (codes .entry)) (now (minimums .entry)) (now (steps .entry))))
         (lends (lent (now (length .entry)) (now (packed .entry)) (now (scores .entry))) (now (visits .entry))) (now (dots .entry)) ⌝ }
+    ensures numbers { λ r. ⌜ numbersLeft r (len (now (minimums .entry))) (now (dots .exit)) (lent (now (length .exit)) (now (packed .exit)) (now (scores .exit))) ≡ true ⌝ }
 {
     let n = minimums.len();
     let verdict = admit(
@@ -248,9 +251,10 @@ pub fn sort_and_search(
     dots: &mut [f32],
     order: &mut [u64],
 ) -> Answer
-    ensures { λ r. ⌜ leavesInOrder (left r (lends (lent (now (length .exit)) (now (packed .exit)) (now (scores .exit))) (now (visits .exit)))) (now (dots .exit)) (now (order .exit))
+    ensures leaves { λ r. ⌜ leavesInOrder (left r (lends (lent (now (length .exit)) (now (packed .exit)) (now (scores .exit))) (now (visits .exit)))) (now (dots .exit)) (now (order .exit))
         ≡ searchedInOrder (question k factor (terms (now (asked .entry)) (now (weights .entry)) (now (components .entry)) (now (values .entry))) (now (postings .entry)) (now (blocks .entry)) (arrays (now (present .entry)) (now (offsets .entry)) (now (ids .entry)) (now (codes .entry)) (now (minimums .entry)) (now (steps .entry))))
         (lends (lent (now (length .entry)) (now (packed .entry)) (now (scores .entry))) (now (visits .entry))) (now (dots .entry)) (now (order .entry)) ⌝ }
+    ensures numbers { λ r. ⌜ numbersLeft r (len (now (minimums .entry))) (now (dots .exit)) (lent (now (length .exit)) (now (packed .exit)) (now (scores .exit))) ≡ true ⌝ }
 {
     let n = minimums.len();
     let verdict = admit(

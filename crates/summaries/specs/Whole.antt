@@ -57,7 +57,7 @@ below-terms n (t ∷ ts) h m a =
     let b = both (ltb (t .component) n) (every (λ t. ltb (t .component) n) ts) h in
     either (eqb m (t .component)) (among m (components ts)) a (λ e. subst (λ k. k < n) (sym (eqb-true m (t .component) e)) (ltb-true (t .component) n (b .0))) (below-terms n ts (b .1) m)
 
-block-below : (n : ℕ) (d : Documents) (block : List ℕ) → documentsHold n d block ≡ true → Below n (components (blockTerms d block))
+pub block-below : (n : ℕ) (d : Documents) (block : List ℕ) → documentsHold n d block ≡ true → Below n (components (blockTerms d block))
 unfolding documentsHold termsHoldBelow
 block-below n d [] h m a = absurd (true≢false (sym a))
 block-below n d (i ∷ block) h m a =

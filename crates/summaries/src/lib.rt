@@ -26,8 +26,8 @@ fn join_keys(keys: &mut [u64], maxima: &[f32])
 {
     let mut i = 0usize;
     while i < keys.len() {
-        let component = documents::component_of_term_key(keys[i]);
-        keys[i] = documents::term_key(component, maxima[i]);
+        let component = term_keys::component_of_term_key(keys[i]);
+        keys[i] = term_keys::term_key(component, maxima[i]);
         i += 1;
     }
 }
@@ -39,7 +39,7 @@ fn total(keys: &[u64]) -> f32
     let mut sum = 0.0f32;
     let mut i = 0usize;
     while i < keys.len() {
-        sum = sum + documents::value_of_term_key(keys[i]);
+        sum = sum + term_keys::value_of_term_key(keys[i]);
         i += 1;
     }
     sum
@@ -52,7 +52,7 @@ fn reached(keys: &[u64], goal: f32) -> usize
     let mut sum = 0.0f32;
     let mut i = 0usize;
     while i < keys.len() {
-        sum = sum + documents::value_of_term_key(keys[i]);
+        sum = sum + term_keys::value_of_term_key(keys[i]);
         i += 1;
         if sum >= goal {
             return i;
@@ -147,7 +147,7 @@ pub fn summarize(
 ) -> Summarized
     ensures { λ r. ⌜ Summarizes dimension strategy (documents (now (offsets .entry)) (now (components .entry)) (now (values .entry))) (now (block .entry)) (now (keys .entry)) (now (places .entry)) (now (maxima .entry)) r (now (keys .exit)) (now (places .exit)) (now (maxima .exit)) ⌝ }
 {
-    if !documents::documents_hold(dimension, offsets, components, values, block) {
+    if !document_checks::documents_hold(dimension, offsets, components, values, block) {
         clear_all(keys, places, maxima);
         return Summarized::Refused(Refusal::WrongTerms);
     }

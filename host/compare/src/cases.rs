@@ -1,6 +1,8 @@
 //! Random cases, rich in what goes wrong: ties, zeros of both signs, subnormals, empty documents that share their start, repeated ids
 //! and centroids, tiny dimensions, factors, energies and fractions that are no numbers.
 use crate::model::*;
+use crate::model_build::*;
+use crate::slips::Slip;
 
 #[derive(Clone)]
 pub struct Random(u64);
@@ -116,12 +118,35 @@ pub fn build_input(r: &mut Random) -> BuildInput {
     let centroids = match blocking {
         Blocking::Fixed { .. } => Vec::new(),
         Blocking::Exact { fraction, .. } | Blocking::Approximate { fraction, .. } => {
-            let many = if ids.is_empty() { 0 } else { centroid_count(fraction, ids.len()).min(ids.len() as u64) };
+            let many = if ids.is_empty() { 0 } else { centroid_count(Slip::None, fraction, ids.len()).min(ids.len() as u64) };
             let from_list = !r.chance(4);
             (0..many).map(|_| if from_list { r.pick(&ids) } else { r.below(count) }).collect()
         }
     };
     BuildInput { dimension, documents, ids, centroids, blocking, summary: summary(r) }
+}
+
+/// A list at one of the limits.
+pub fn large_input(r: &mut Random) -> BuildInput {
+    let terms = r.pick(&[65_534, 65_535]);
+    let (dimension, lengths): (u64, Vec<u64>) = match r.below(3) {
+        // as many blocks as there may be, and one less
+        0 => (16, vec![1; terms as usize]),
+        // documents as long as they may be
+        1 => (65_535 + r.below(9), vec![terms, 3, terms]),
+        _ => (DIMENSION_LIMIT, vec![40; 30]),
+    };
+    let mut d = Documents { offsets: vec![0], ..Documents::default() };
+    for length in lengths {
+        let gap = dimension / length;
+        for i in 0..length {
+            d.components.push((i * gap + r.below(gap)) as u32);
+            d.values.push(value(r));
+        }
+        d.offsets.push(d.components.len() as u64);
+    }
+    let ids = (0..d.count()).collect();
+    BuildInput { dimension, documents: d, ids, centroids: Vec::new(), blocking: Blocking::Fixed { size: 1 }, summary: summary(r) }
 }
 
 pub fn query(r: &mut Random, dimension: u64) -> (Vec<u32>, Vec<f32>) {
@@ -145,4 +170,40 @@ pub fn kept(r: &mut Random, k: u64, starts: u64) -> Vec<(u64, f32)> {
         keep(Slip::None, k, &mut entries, (r.below(starts + 2) * 65_536 + r.below(4), score));
     }
     entries
+}
+
+/// Buffers that a build of this list needs, some of them longer, all of them holding something.
+pub fn build_buffers(r: &mut Random, g: &BuildInput, l: &List) -> BuildBuffers {
+    let mut more = |n: usize| n + if r.chance(3) { r.below(4) as usize } else { 0 };
+    let output = List {
+        packed: vec![5; more(l.packed.len())],
+        block_offsets: vec![6; more(l.block_offsets.len())],
+        components: vec![7; more(l.components.len())],
+        component_offsets: vec![8; more(l.component_offsets.len())],
+        ids: vec![9; more(l.ids.len())],
+        codes: vec![10; more(l.codes.len())],
+        minimums: vec![-11.0; more(l.minimums.len())],
+        steps: vec![-12.0; more(l.steps.len())],
+    };
+    let needs = if scratch_known(g) { scratch_needs(g) } else { [4; 11] };
+    let [order, blocks, sorted, known, taken, counts, starts, slots, weights, scores, keys] = needs.map(more);
+    let scratch = Scratch {
+        order: vec![13; order],
+        blocks: vec![14; blocks],
+        sorted: vec![15; sorted],
+        known: vec![16; known],
+        taken: vec![17; taken],
+        counts: vec![18; counts],
+        starts: vec![19; starts],
+        slots: vec![20; slots],
+        weights: vec![-21.0; weights],
+        scores: vec![f32::NAN; scores],
+        keys: vec![22; keys],
+    };
+    BuildBuffers { output, scratch }
+}
+
+/// Whether the documents are such that the scratch need can be told.
+fn scratch_known(g: &BuildInput) -> bool {
+    g.dimension <= DIMENSION_LIMIT && !g.documents.offsets_wrong() && g.centroids.iter().all(|&c| c < g.documents.count())
 }

@@ -1,41 +1,9 @@
 //! A plain reading of document 01, written from the document alone: slow, with vectors, and with nothing in common with the proved
 //! code. Each function takes what a call is given and answers what it must answer, refusals and buffers included.
 //!
-//! `Slip` makes one deliberate mistake: the comparison has to notice each of them.
+//! This file has the leaves, the kept list and searching; `model_build` has building. `Slip` makes one deliberate mistake.
+use crate::slips::Slip;
 use std::cmp::Ordering;
-
-#[derive(Clone, Copy, Debug, PartialEq, Eq)]
-pub enum Slip {
-    None,
-    RoundHalfDown,
-    RoundFloorOfHalf,
-    StepOver256,
-    LeastNumeric,
-    ReadBackWithoutLeast,
-    ShortListOneBlock,
-    GreaterPackedFirst,
-    ZerosEqualInOrder,
-    ExcludeDissolvedExact,
-    DissolvedTakesItself,
-    FirstGreatestApproximate,
-    SurvivorsWithoutGroupLeftOut,
-    GroupsBySlot,
-    DissolveBelowMinimum,
-    MaximumLaterEqual,
-    EnergyOneLater,
-    EnergyStrictly,
-    TiesToGreaterComponent,
-    SumsOverDocumentOrder,
-    SkipAtMost,
-    WorstOncePerList,
-    MarkSkipped,
-    MarkByPosting,
-    LastOfEqualScoresFirst,
-    SkipBeforeFull,
-    NoVisit,
-    CountVisited,
-    CutSmallestTerms,
-}
 
 #[derive(Clone, Debug, Default)]
 pub struct Documents {
@@ -73,14 +41,14 @@ pub struct List {
 pub const LIST_LIMIT: usize = 16_777_216;
 pub const BLOCK_LIMIT: u64 = 65_535;
 pub const DIMENSION_LIMIT: u64 = 1_048_575;
-const START_LIMIT: u64 = 1 << 48;
-const LENGTH_LIMIT: u64 = 65_535;
+pub const START_LIMIT: u64 = 1 << 48;
+pub const LENGTH_LIMIT: u64 = 65_535;
 
 pub fn in_bound(v: f32) -> bool {
     v.is_finite() && v.abs() <= 4_294_967_296.0
 }
 
-fn rises(components: &[u32]) -> bool {
+pub fn rises(components: &[u32]) -> bool {
     components.windows(2).all(|w| w[0] < w[1])
 }
 
@@ -246,7 +214,8 @@ pub fn quantize(slip: Slip, values: &[f32], codes: &mut [u8]) -> Result<(f32, f3
 
 // ---- blocking
 pub fn fixed_offsets(slip: Slip, n: u64, size: u64) -> Vec<u64> {
-    let mut offsets: Vec<u64> = (0..n / size).map(|i| i * size).collect();
+    let blocks = if slip == Slip::BlocksRoundedUp { n.div_ceil(size) } else { n / size };
+    let mut offsets: Vec<u64> = (0..blocks).map(|i| i * size).collect();
     if slip == Slip::ShortListOneBlock && offsets.is_empty() && n > 0 {
         offsets.push(0);
     }
@@ -272,8 +241,8 @@ pub fn fixed_size_blocking(slip: Slip, n: u64, size: u64, buffer: &mut [u64]) ->
     Ok(offsets.len() as u64)
 }
 
-pub fn centroid_count(fraction: f32, n: usize) -> u64 {
-    let product = fraction * n as f32;
+pub fn centroid_count(slip: Slip, fraction: f32, n: usize) -> u64 {
+    let product = if slip == Slip::CountInDouble { fraction as f64 * n as f64 } else { (fraction * n as f32) as f64 };
     let whole = if product.is_nan() || product < 0.0 { 0 } else { product as u64 };
     whole.max(1)
 }
@@ -295,7 +264,7 @@ impl Documents {
         (a as usize..b as usize).map(|i| (self.components[i], self.values[i])).collect()
     }
 
-    fn offsets_wrong(&self) -> bool {
+    pub fn offsets_wrong(&self) -> bool {
         self.offsets.first() != Some(&0)
             || self.offsets.windows(2).any(|w| w[0] > w[1])
             || self.offsets.last() != Some(&(self.components.len() as u64))
@@ -304,7 +273,7 @@ impl Documents {
 }
 
 /// Over the query's terms as they come, from +0.
-fn dot(slip: Slip, query: &[(u32, f32)], terms: &[(u32, f32)]) -> f32 {
+pub fn dot(slip: Slip, query: &[(u32, f32)], terms: &[(u32, f32)]) -> f32 {
     let mut sum = 0.0_f32;
     if slip == Slip::SumsOverDocumentOrder {
         for &(c, v) in terms {
@@ -324,286 +293,6 @@ fn dot(slip: Slip, query: &[(u32, f32)], terms: &[(u32, f32)]) -> f32 {
         }
     }
     sum
-}
-
-fn falling(slip: Slip, mut terms: Terms) -> Terms {
-    terms.sort_by(|a, b| {
-        let tie = if slip == Slip::TiesToGreaterComponent { b.0.cmp(&a.0) } else { a.0.cmp(&b.0) };
-        b.1.total_cmp(&a.1).then(tie)
-    });
-    terms
-}
-
-fn largest(slip: Slip, cut: u64, terms: Terms) -> Terms {
-    let mut all = falling(slip, terms);
-    if slip == Slip::CutSmallestTerms {
-        all.reverse();
-    }
-    all.truncate(cut.min(all.len() as u64) as usize);
-    all
-}
-
-// ---- clusters: pairs (centroid's document, document)
-fn nearest(slip: Slip, d: &Documents, centroids: &[u64], id: u64) -> u64 {
-    let query = d.terms(id);
-    let mut best = centroids[0];
-    let mut most = 0.0_f32;
-    for &c in centroids {
-        let x = dot(slip, &query, &d.terms(c));
-        if x > most {
-            most = x;
-            best = c;
-        }
-    }
-    best
-}
-
-/// The last greatest, as a place among those that compete.
-fn nearly(slip: Slip, d: &Documents, cut: u64, competing: &[u64], id: u64) -> usize {
-    let query = largest(slip, cut, d.terms(id));
-    let mut best = 0;
-    let mut most = f32::NEG_INFINITY;
-    for (slot, &c) in competing.iter().enumerate() {
-        let x = dot(slip, &query, &d.terms(c));
-        let takes = if slip == Slip::FirstGreatestApproximate {
-            slot == 0 || x.total_cmp(&most) == Ordering::Greater
-        } else {
-            x.total_cmp(&most) != Ordering::Less
-        };
-        if takes {
-            most = x;
-            best = slot;
-        }
-    }
-    best
-}
-
-fn small_groups(slip: Slip, minimum: u64, pairs: &[(u64, u64)]) -> std::collections::BTreeSet<u64> {
-    let mut sizes = std::collections::BTreeMap::<u64, u64>::new();
-    for p in pairs {
-        *sizes.entry(p.0).or_default() += 1;
-    }
-    let dissolves = |n: u64| if slip == Slip::DissolveBelowMinimum { n < minimum } else { n <= minimum };
-    sizes.into_iter().filter(|&(_, n)| dissolves(n)).map(|(c, _)| c).collect()
-}
-
-fn exact(slip: Slip, d: &Documents, minimum: u64, centroids: &[u64], ids: &[u64]) -> Vec<(u64, u64)> {
-    let first: Vec<_> = ids
-        .iter()
-        .map(|&i| (if centroids.contains(&i) { i } else { nearest(slip, d, centroids, i) }, i))
-        .collect();
-    let gone = small_groups(slip, minimum, &first);
-    let left: Vec<u64> = if slip == Slip::ExcludeDissolvedExact {
-        let l: Vec<u64> = centroids.iter().copied().filter(|c| !gone.contains(c)).collect();
-        if l.is_empty() { centroids.to_vec() } else { l }
-    } else {
-        centroids.to_vec()
-    };
-    first
-        .into_iter()
-        .map(|(c, i)| {
-            if !gone.contains(&c) {
-                (c, i)
-            } else if slip == Slip::DissolvedTakesItself && centroids.contains(&i) {
-                (i, i)
-            } else {
-                (nearest(slip, d, &left, i), i)
-            }
-        })
-        .collect()
-}
-
-fn approximate(slip: Slip, d: &Documents, cut: u64, minimum: u64, centroids: &[u64], ids: &[u64]) -> Vec<(u64, u64)> {
-    let slots: Vec<_> = ids.iter().map(|&i| (nearly(slip, d, cut, centroids, i), i)).collect();
-    let first: Vec<(u64, u64)> = if slip == Slip::GroupsBySlot {
-        slots.iter().map(|&(s, i)| (s as u64, i)).collect()
-    } else {
-        slots.iter().map(|&(s, i)| (centroids[s], i)).collect()
-    };
-    let gone = small_groups(slip, minimum, &first);
-    let name = |s: usize| if slip == Slip::GroupsBySlot { s as u64 } else { centroids[s] };
-    let left: Vec<usize> = (0..centroids.len())
-        .filter(|&s| !gone.contains(&name(s)))
-        .filter(|&s| slip != Slip::SurvivorsWithoutGroupLeftOut || first.iter().any(|p| p.0 == name(s)))
-        .collect();
-    let competing: Vec<u64> = left.iter().map(|&s| centroids[s]).collect();
-    first
-        .into_iter()
-        .map(|(c, i)| {
-            let named = |c: u64| if slip == Slip::GroupsBySlot { centroids[c as usize] } else { c };
-            if !gone.contains(&c) {
-                (named(c), i)
-            } else if left.is_empty() {
-                (centroids[0], i)
-            } else {
-                (competing[nearly(slip, d, cut, &competing, i)], i)
-            }
-        })
-        .collect()
-}
-
-/// The documents in list order, and the block offsets.
-fn blocked(slip: Slip, d: &Documents, ids: &[u64], centroids: &[u64], blocking: Blocking) -> (Vec<u64>, Vec<u64>) {
-    let mut pairs = match blocking {
-        Blocking::Fixed { size } => return (ids.to_vec(), fixed_offsets(slip, ids.len() as u64, size)),
-        _ if ids.is_empty() => return (Vec::new(), Vec::new()),
-        Blocking::Exact { minimum, .. } => exact(slip, d, minimum, centroids, ids),
-        Blocking::Approximate { minimum, cut, .. } => approximate(slip, d, cut, minimum, centroids, ids),
-    };
-    pairs.sort();
-    let mut offsets = vec![0];
-    for i in 1..=pairs.len() {
-        if i == pairs.len() || pairs[i].0 != pairs[i - 1].0 {
-            offsets.push(i as u64);
-        }
-    }
-    (pairs.into_iter().map(|p| p.1).collect(), offsets)
-}
-
-// ---- summaries
-fn block_maximum(slip: Slip, d: &Documents, block: &[u64]) -> Terms {
-    let mut found: Terms = Vec::new();
-    let mut place = std::collections::HashMap::new();
-    for &i in block {
-        for (c, v) in d.terms(i) {
-            match place.get(&c) {
-                None => {
-                    place.insert(c, found.len());
-                    found.push((c, v));
-                }
-                Some(&at) => {
-                    let m: &mut (u32, f32) = &mut found[at];
-                    if v > m.1 || (slip == Slip::MaximumLaterEqual && v == m.1) {
-                        m.1 = v;
-                    }
-                }
-            }
-        }
-    }
-    found
-}
-
-fn summary(slip: Slip, how: Summary, d: &Documents, block: &[u64]) -> Terms {
-    let mut all = falling(slip, block_maximum(slip, d, block));
-    match how {
-        Summary::Fixed { size } => all.truncate(size.min(all.len() as u64) as usize),
-        Summary::Energy { share } => {
-            let mut total = 0.0_f32;
-            for t in &all {
-                total += t.1;
-            }
-            let goal = total * share;
-            let mut run = 0.0_f32;
-            for i in 0..all.len() {
-                run += all[i].1;
-                let there = if slip == Slip::EnergyStrictly { run > goal } else { run >= goal };
-                if there {
-                    let more = if slip == Slip::EnergyOneLater { 2 } else { 1 };
-                    all.truncate((i + more).min(all.len()));
-                    break;
-                }
-            }
-        }
-    }
-    all.sort_by_key(|t| t.0);
-    all
-}
-
-fn layout(slip: Slip, summaries: &[Terms]) -> List {
-    let mut l = List::default();
-    let mut entries: Vec<(u32, u16, u8)> = Vec::new();
-    for (b, s) in summaries.iter().enumerate() {
-        let values: Vec<f32> = s.iter().map(|t| t.1).collect();
-        let (low, step, codes) = quantized(slip, &values);
-        l.minimums.push(low);
-        l.steps.push(step);
-        entries.extend(s.iter().zip(codes).map(|(t, code)| (t.0, b as u16, code)));
-    }
-    entries.sort_by_key(|e| (e.0, e.1));
-    l.component_offsets.push(0);
-    for (i, e) in entries.iter().enumerate() {
-        if i == 0 || entries[i - 1].0 != e.0 {
-            l.components.push(e.0);
-            l.component_offsets.push(i as u64);
-        }
-        *l.component_offsets.last_mut().unwrap() = i as u64 + 1;
-        l.ids.push(e.1);
-        l.codes.push(e.2);
-    }
-    l
-}
-
-/// What a build is given.
-#[derive(Clone, Debug)]
-pub struct BuildInput {
-    pub dimension: u64,
-    pub documents: Documents,
-    pub ids: Vec<u64>,
-    pub centroids: Vec<u64>,
-    pub blocking: Blocking,
-    pub summary: Summary,
-}
-
-/// The list that is built, or the refusal; `room` says whether the built list fits its output, and `scratch` whether that is enough.
-pub fn build(slip: Slip, g: &BuildInput, scratch: bool, room: impl Fn(&List) -> bool) -> Result<List, u64> {
-    let d = &g.documents;
-    if g.ids.len() > LIST_LIMIT || g.dimension == 0 || g.dimension > DIMENSION_LIMIT {
-        return Err(8);
-    }
-    let used: &[u64] = if matches!(g.blocking, Blocking::Fixed { .. }) { &[] } else { &g.centroids };
-    let listed = || g.ids.iter().chain(used.iter()).copied();
-    if d.offsets_wrong() || listed().any(|i| i >= d.count()) {
-        return Err(6);
-    }
-    for i in listed() {
-        let t = d.terms(i);
-        let components: Vec<u32> = t.iter().map(|t| t.0).collect();
-        if !rises(&components) || t.iter().any(|t| t.0 as u64 >= g.dimension || !in_bound(t.1)) {
-            return Err(14);
-        }
-    }
-    if g.ids.iter().any(|&i| d.range(i).0 >= START_LIMIT) {
-        return Err(1);
-    }
-    if g.ids.iter().any(|&i| d.range(i).1 - d.range(i).0 > LENGTH_LIMIT) {
-        return Err(2);
-    }
-    match g.blocking {
-        Blocking::Fixed { size } => {
-            if size == 0 {
-                return Err(3);
-            }
-            if g.ids.len() as u64 / size > BLOCK_LIMIT {
-                return Err(8);
-            }
-        }
-        Blocking::Exact { fraction, .. } | Blocking::Approximate { fraction, .. } => {
-            if !g.ids.is_empty() {
-                let count = centroid_count(fraction, g.ids.len());
-                if count > BLOCK_LIMIT || g.centroids.len() as u64 != count.min(g.ids.len() as u64) {
-                    return Err(5);
-                }
-            }
-        }
-    }
-    if !scratch {
-        return Err(4);
-    }
-    let (order, offsets) = blocked(slip, d, &g.ids, &g.centroids, g.blocking);
-    let mut summaries = Vec::new();
-    for w in offsets.windows(2) {
-        summaries.push(summary(slip, g.summary, d, &order[w[0] as usize..w[1] as usize]));
-    }
-    if summaries.iter().any(|s| s.is_empty()) {
-        return Err(7);
-    }
-    let mut l = layout(slip, &summaries);
-    l.packed = order.iter().map(|&i| pack(d.range(i).0, d.range(i).1).unwrap()).collect();
-    l.block_offsets = offsets;
-    if !room(&l) {
-        return Err(4);
-    }
-    Ok(l)
 }
 
 // ---- searching
@@ -791,35 +480,3 @@ pub fn search(slip: Slip, g: &SearchInput, b: &mut SearchBuffers) -> Found {
         None => Found::Done { kept: b.length, evaluated, skipped },
     }
 }
-
-/// Every slip but none.
-pub const SLIPS: &[Slip] = &[
-    Slip::RoundHalfDown,
-    Slip::RoundFloorOfHalf,
-    Slip::StepOver256,
-    Slip::LeastNumeric,
-    Slip::ReadBackWithoutLeast,
-    Slip::ShortListOneBlock,
-    Slip::GreaterPackedFirst,
-    Slip::ZerosEqualInOrder,
-    Slip::ExcludeDissolvedExact,
-    Slip::DissolvedTakesItself,
-    Slip::FirstGreatestApproximate,
-    Slip::SurvivorsWithoutGroupLeftOut,
-    Slip::GroupsBySlot,
-    Slip::DissolveBelowMinimum,
-    Slip::MaximumLaterEqual,
-    Slip::EnergyOneLater,
-    Slip::EnergyStrictly,
-    Slip::TiesToGreaterComponent,
-    Slip::SumsOverDocumentOrder,
-    Slip::SkipAtMost,
-    Slip::WorstOncePerList,
-    Slip::MarkSkipped,
-    Slip::MarkByPosting,
-    Slip::LastOfEqualScoresFirst,
-    Slip::SkipBeforeFull,
-    Slip::NoVisit,
-    Slip::CountVisited,
-    Slip::CutSmallestTerms,
-];

@@ -1,36 +1,11 @@
 //! The proved functions, called as a C host calls them, with a guard on both sides of every buffer that they may write.
 use crate::model::{Found, SearchBuffers, SearchInput};
-
-
-extern "C" {
-    fn merino_push(k: u64, length: *mut u64, packed: *mut u64, packed_len: usize, scores: *mut f32, scores_len: usize, new_packed: u64, new_score: f32) -> u64;
-    fn merino_search(
-        by_score: u64,
-        asked: *const u32, asked_len: usize,
-        weights: *const f32, weights_len: usize,
-        k: u64,
-        factor: f32,
-        components: *const u32, components_len: usize,
-        values: *const f32, values_len: usize,
-        postings: *const u64, postings_len: usize,
-        blocks: *const u64, blocks_len: usize,
-        present: *const u32, present_len: usize,
-        offsets: *const u64, offsets_len: usize,
-        ids: *const u16, ids_len: usize,
-        codes: *const u8, codes_len: usize,
-        minimums: *const f32, minimums_len: usize,
-        steps: *const f32, steps_len: usize,
-        length: *mut u64,
-        packed: *mut u64, packed_len: usize,
-        scores: *mut f32, scores_len: usize,
-        visits: *mut u8, visits_len: usize,
-        dots: *mut f32, dots_len: usize,
-        order: *mut u64, order_len: usize,
-        position: *mut u64,
-        evaluated: *mut u64,
-        skipped: *mut u64,
-    ) -> u64;
-}
+#[cfg(builds)]
+use crate::model::{Blocking, List, Summary};
+#[cfg(builds)]
+use crate::model_build::Scratch;
+use crate::model_build::{BuildBuffers, BuildInput, Written};
+use merino::raw::{merino_push, merino_search};
 
 const GUARD: usize = 8;
 
@@ -128,7 +103,6 @@ pub fn search(g: &SearchInput, b: &mut SearchBuffers) -> Found {
 }
 
 /// The same without guards, and how many seconds the call took.
-#[allow(dead_code)]
 pub fn timed_search(g: &SearchInput, b: &mut SearchBuffers) -> (Found, f64) {
     let (mut position, mut evaluated, mut skipped) = (0, 0, 0);
     let l = &g.list;
@@ -164,4 +138,122 @@ pub fn timed_search(g: &SearchInput, b: &mut SearchBuffers) -> (Found, f64) {
     let took = start.elapsed().as_secs_f64();
     assert_eq!(number, 0);
     (Found::Done { kept: b.length, evaluated, skipped }, took)
+}
+
+/// A choice's numbers: blocking, block size, fraction, minimum size, cut. What a choice does not look at is noise.
+#[cfg(builds)]
+fn blocking_numbers(b: Blocking, noise: u64) -> (u64, u64, f32, u64, u64) {
+    let float = f32::from_bits(noise as u32);
+    match b {
+        Blocking::Fixed { size } => (0, size, float, noise, noise),
+        Blocking::Exact { fraction, minimum } => (1, noise, fraction, minimum, noise),
+        Blocking::Approximate { fraction, minimum, cut } => (noise.max(2), noise, fraction, minimum, cut),
+    }
+}
+
+#[cfg(builds)]
+fn summary_numbers(s: Summary, noise: u64) -> (u64, u64, f32) {
+    match s {
+        Summary::Fixed { size } => (0, size, f32::from_bits(noise as u32)),
+        Summary::Energy { share } => (noise.max(1), noise, share),
+    }
+}
+
+/// A build with guards; None where the library has none yet.
+#[cfg(not(builds))]
+pub fn build(_: &BuildInput, _: &mut BuildBuffers, _: u64) -> Option<Result<Written, u64>> {
+    None
+}
+
+/// A build with guards.
+#[cfg(builds)]
+pub fn build(g: &BuildInput, b: &mut BuildBuffers, noise: u64) -> Option<Result<Written, u64>> {
+    const N: u64 = 0xdead_beef;
+    const F: f32 = -7.5;
+    let (blocking, block_size, fraction, minimum, cut) = blocking_numbers(g.blocking, noise);
+    let (summarization, n_components, energy) = summary_numbers(g.summary, noise);
+    let (o, s) = (&b.output, &b.scratch);
+    let mut postings = Guarded::new(&o.packed, N);
+    let mut block_offsets = Guarded::new(&o.block_offsets, N);
+    let mut components = Guarded::new(&o.components, N as u32);
+    let mut component_offsets = Guarded::new(&o.component_offsets, N);
+    let mut ids = Guarded::new(&o.ids, 0xbeef);
+    let mut codes = Guarded::new(&o.codes, 0xaa);
+    let mut minimums = Guarded::new(&o.minimums, F);
+    let mut steps = Guarded::new(&o.steps, F);
+    let mut order = Guarded::new(&s.order, N);
+    let mut blocks = Guarded::new(&s.blocks, N);
+    let mut sorted = Guarded::new(&s.sorted, N);
+    let mut known = Guarded::new(&s.known, N);
+    let mut taken = Guarded::new(&s.taken, N);
+    let mut counts = Guarded::new(&s.counts, N);
+    let mut starts = Guarded::new(&s.starts, N);
+    let mut slots = Guarded::new(&s.slots, N);
+    let mut weights = Guarded::new(&s.weights, F);
+    let mut scores = Guarded::new(&s.scores, F);
+    let mut keys = Guarded::new(&s.keys, N);
+    let mut w = [77u64; 5];
+    let [w0, w1, w2, w3, w4] = &mut w;
+    let d = &g.documents;
+    let number = unsafe {
+        merino::raw::merino_build(
+            g.dimension, blocking, block_size, fraction, minimum, cut, summarization, n_components, energy,
+            d.offsets.as_ptr(), d.offsets.len(),
+            d.components.as_ptr(), d.components.len(),
+            d.values.as_ptr(), d.values.len(),
+            g.ids.as_ptr(), g.ids.len(),
+            g.centroids.as_ptr(), g.centroids.len(),
+            postings.at(), postings.len(),
+            block_offsets.at(), block_offsets.len(),
+            components.at(), components.len(),
+            component_offsets.at(), component_offsets.len(),
+            ids.at(), ids.len(),
+            codes.at(), codes.len(),
+            minimums.at(), minimums.len(),
+            steps.at(), steps.len(),
+            order.at(), order.len(),
+            blocks.at(), blocks.len(),
+            sorted.at(), sorted.len(),
+            known.at(), known.len(),
+            taken.at(), taken.len(),
+            counts.at(), counts.len(),
+            starts.at(), starts.len(),
+            slots.at(), slots.len(),
+            weights.at(), weights.len(),
+            scores.at(), scores.len(),
+            keys.at(), keys.len(),
+            w0, w1, w2, w3, w4,
+        )
+    };
+    b.output = List {
+        packed: postings.back(),
+        block_offsets: block_offsets.back(),
+        components: components.back(),
+        component_offsets: component_offsets.back(),
+        ids: ids.back(),
+        codes: codes.back(),
+        minimums: minimums.back(),
+        steps: steps.back(),
+    };
+    b.scratch = Scratch {
+        order: order.back(),
+        blocks: blocks.back(),
+        sorted: sorted.back(),
+        known: known.back(),
+        taken: taken.back(),
+        counts: counts.back(),
+        starts: starts.back(),
+        slots: slots.back(),
+        weights: weights.back(),
+        scores: scores.back(),
+        keys: keys.back(),
+    };
+    let [postings, offsets, components, entries, summaries] = w;
+    let written = Written { postings, offsets, components, entries, summaries };
+    Some(if number == 0 {
+        Ok(written)
+    } else {
+        assert_eq!(written, Written::default(), "a refused build writes no numbers");
+        Err(number)
+    })
 }

@@ -11,8 +11,8 @@ use borrow.Author.Needs.{needs}
 use Rattle.assignment.proofs.nearest_to.Statement.{statement}
 use Rattle.assignment.proofs.nearest_to.Tie as tie
 
-clear-values-requires : tie.Need-clear-values-requires
-clear-values-requires c κs = search needs
+clear-f32-requires : tie.Need-clear-f32-requires
+clear-f32-requires c κs = search needs
 
 places-of-requires : tie.Need-places-of-requires
 places-of-requires c κs = search needs
@@ -52,13 +52,13 @@ same-length c = search needs
 
 returns : tie.Need-returns
 returns c = let a = c .before .before .before .before .before .before .before .before .before .before .before .before .before .before .before .before .before .before .before .before .before .args in
-    (c .before .before .before .before .add-terms .ensures ∙ (λ i. addTerms (documents (a .starts .now) (a .slots .now) (a .weights .now)) (c .before .before .before .before .before .before .before .before .before .before .before .clear-values .ensures i) (sym (c .before .before .before .before .before .before .before .before .places-of .ensures .holds) i)), c .first-above-zero .ensures)
+    (c .before .before .before .before .add-terms .ensures ∙ (λ i. addTerms (documents (a .starts .now) (a .slots .now) (a .weights .now)) (c .before .before .before .before .before .before .before .before .before .before .before .clear-f32 .ensures i) (sym (c .before .before .before .before .before .before .before .before .places-of .ensures .holds) i)), c .first-above-zero .ensures)
 
 pub nearest-to-spec : {M : Type 1} → statement M
 nearest-to-spec =
     tie.close
     (tie.spec
-    clear-values-requires
+    clear-f32-requires
     places-of-requires
     mul-add-terms
     sub-add-terms

@@ -6,6 +6,7 @@ use lib.ListN.{set, length-set}
 use borrow.Author.Needs.{needs}
 use borrow.Author.Tests.{not-true, not-false}
 use Rattle.kept_list.proofs.Climbing.{Climbing, climb-start, climb-up, climb-stay, climb-top, laid-down}
+use Rattle.kept_list.proofs.Passing.{climb-four}
 use Rattle.kept_list.proofs.insert.Statement.{statement}
 use Rattle.kept_list.proofs.insert.Tie as tie
 
@@ -33,41 +34,58 @@ loop-holds c =
     let p = c .before .before .pre in
     climb-start (s .at) (s .packed .now) (s .scores .now) (s .e) (p .0) (p .1)
 
+four-below-requires : tie.Need-four-below-requires Inv-loop μ-loop
+four-below-requires c κs = let i = c .before .before .before .loop .inv in (c .before .if1 .taken, omega (arith, i .within, i .room-scores))
+
+pass-four-requires : tie.Need-pass-four-requires Inv-loop μ-loop
+pass-four-requires c κs = let i = c .before .before .before .before .before .before .before .loop .inv in (c .before .before .before .before .before .if1 .taken, omega (arith, i .within, i .room), omega (arith, i .within, i .room-scores))
+
+loop-less : tie.Need-loop-less Inv-loop μ-loop
+loop-less c = omega (arith, c .before .before .before .before .before .before .before .before .before .before .if1 .taken)
+
+loop-again : tie.Need-loop-again Inv-loop μ-loop
+loop-again c =
+    let s = c .before .before .before .before .before .before .before .before .before .before .before .before .before .before .before .args in
+    let l = c .before .before .before .before .before .before .before .before .before .before .before .before .loop in
+    let p = c .before .before .before .before .pass-four .ensures in
+    let up = climb-four (s .at) (set (s .packed .now) (s .at) (s .e .packed)) (set (s .scores .now) (s .at) (s .e .score)) (s .e) (l .packed) (l .scores) (l .i) (c .before .before .before .before .before .before .before .before .before .before .if1 .taken) (l .inv) (c .before .before .before .before .before .before .before .before .four-below .ensures .1) (sym (c .before .before .before .before .before .before .before .before .four-below .ensures .0) ∙ c .before .before .before .before .before .before .before .if2 .taken) in
+    rw (p .0, p .1) up
+
 sub-j : tie.Need-sub-j Inv-loop μ-loop
 sub-j c = search needs
 
-mul-t12 : tie.Need-mul-t12 Inv-loop μ-loop
-mul-t12 c = search needs
+mul-t20 : tie.Need-mul-t20 Inv-loop μ-loop
+mul-t20 c = search needs
 
-slice-read-t14 : tie.Need-slice-read-t14 Inv-loop μ-loop
-slice-read-t14 c = search needs
+slice-read-t22 : tie.Need-slice-read-t22 Inv-loop μ-loop
+slice-read-t22 c = search needs
 
-mul-t15 : tie.Need-mul-t15 Inv-loop μ-loop
-mul-t15 c = search needs
+mul-t23 : tie.Need-mul-t23 Inv-loop μ-loop
+mul-t23 c = search needs
 
-slice-read-t17 : tie.Need-slice-read-t17 Inv-loop μ-loop
-slice-read-t17 c = search needs
+slice-read-t25 : tie.Need-slice-read-t25 Inv-loop μ-loop
+slice-read-t25 c = search needs
 
 better-requires : tie.Need-better-requires Inv-loop μ-loop
 better-requires c κs = search needs
 
 same-length : tie.Need-same-length Inv-loop μ-loop
 same-length c =
-    let s = c .before .before .before .before .before .before .before .before .args in
-    c .before .before .before .before .before .loop .inv .as-many ∙ length-set (s .packed .now) (s .at) (s .e .packed)
+    let s = c .before .before .before .before .before .before .before .before .before .args in
+    c .before .before .before .before .before .before .loop .inv .as-many ∙ length-set (s .packed .now) (s .at) (s .e .packed)
 
 same-length-2 : tie.Need-same-length-2 Inv-loop μ-loop
 same-length-2 c =
-    let s = c .before .before .before .before .before .before .before .before .args in
-    c .before .before .before .before .before .loop .inv .as-many-scores ∙ length-set (s .scores .now) (s .at) (s .e .score)
+    let s = c .before .before .before .before .before .before .before .before .before .args in
+    c .before .before .before .before .before .before .loop .inv .as-many-scores ∙ length-set (s .scores .now) (s .at) (s .e .score)
 
 returns : tie.Need-returns Inv-loop μ-loop
 returns c =
-    let s = c .before .before .before .before .before .before .before .before .args in
-    let p = c .before .before .before .before .before .before .before .before .pre in
-    let l = c .before .before .before .before .before .loop in
+    let s = c .before .before .before .before .before .before .before .before .before .args in
+    let p = c .before .before .before .before .before .before .before .before .before .pre in
+    let l = c .before .before .before .before .before .before .loop in
     climb-stay (s .at) (set (s .packed .now) (s .at) (s .e .packed)) (set (s .scores .now) (s .at) (s .e .score)) (s .e) (l .packed) (l .scores) (l .i) (l .i - 1) (omega arith) (l .inv)
-    _ refl (sym (c .before .better .ensures) ∙ not-true _ (c .if1 .taken))
+    _ refl (sym (c .before .better .ensures) ∙ not-true _ (c .if3 .taken))
     ∙ laid-down (s .e) (s .at) (s .packed .now) (s .scores .now) (p .0) (p .1)
 
 mul-packed-2 : tie.Need-mul-packed-2 Inv-loop μ-loop
@@ -94,16 +112,16 @@ mul-scores-3 c = search needs
 slice-write-scores-3 : tie.Need-slice-write-scores-3 Inv-loop μ-loop
 slice-write-scores-3 c = simp length-set (omega arith)
 
-loop-less : tie.Need-loop-less Inv-loop μ-loop
-loop-less c = search needs
+loop-less-2 : tie.Need-loop-less-2 Inv-loop μ-loop
+loop-less-2 c = search needs
 
-loop-again : tie.Need-loop-again Inv-loop μ-loop
-loop-again c =
-    let s = c .before .before .before .before .before .before .before .before .args in
-    let p = c .before .before .before .before .before .before .before .before .pre in
-    let l = c .before .before .before .before .before .loop in
+loop-again-2 : tie.Need-loop-again-2 Inv-loop μ-loop
+loop-again-2 c =
+    let s = c .before .before .before .before .before .before .before .before .before .args in
+    let p = c .before .before .before .before .before .before .before .before .before .pre in
+    let l = c .before .before .before .before .before .before .loop in
     climb-up (s .at) (set (s .packed .now) (s .at) (s .e .packed)) (set (s .scores .now) (s .at) (s .e .score)) (s .e) (l .packed) (l .scores) (l .i) (l .i - 1) (omega arith) (l .inv)
-    _ refl (sym (c .before .better .ensures) ∙ not-false _ (c .if1 .left))
+    _ refl (sym (c .before .better .ensures) ∙ not-false _ (c .if3 .left))
 
 same-length-3 : tie.Need-same-length-3 Inv-loop μ-loop
 same-length-3 c =
@@ -134,11 +152,15 @@ insert-spec =
     mul-scores
     slice-write-scores
     loop-holds
+    four-below-requires
+    pass-four-requires
+    loop-less
+    loop-again
     sub-j
-    mul-t12
-    slice-read-t14
-    mul-t15
-    slice-read-t17
+    mul-t20
+    slice-read-t22
+    mul-t23
+    slice-read-t25
     better-requires
     same-length
     same-length-2
@@ -151,8 +173,8 @@ insert-spec =
     slice-write-packed-3
     mul-scores-3
     slice-write-scores-3
-    loop-less
-    loop-again
+    loop-less-2
+    loop-again-2
     same-length-3
     same-length-4
     returns-2)

@@ -30,7 +30,7 @@ returns : tie.Need-returns
 returns c =
     let a = c .before .before .before .before .before .before .before .before .before .before .before .before .before .before .before .before .before .before .before .before .before .before .before .before .before .before .before .before .before .before .before .before .before .before .before .before .args in
     plain-shows _ (question (a .k) (a .factor) (terms (a .asked .now) (a .weights .now) (a .components .now) (a .values .now)) (a .postings .now) (a .blocks .now) (arrays (a .present .now) (a .offsets .now) (a .ids .now) (a .codes .now) (a .minimums .now) (a .steps .now)))
-    (lends (lent (a .length .now) (a .packed .now) (a .scores .now)) (a .visits .now)) (a .dots .now) (a .order .now) _ _ _ (c .before .before .before .before .before .before .before .before .before .before .before .before .before .before .before .before .before .before .if1 .taken) (c .before .before .before .before .before .before .before .before .before .before .before .before .search .ensures) (c .show .ensures)
+    (lends (lent (a .length .now) (a .packed .now) (a .scores .now)) (a .visits .now)) (a .dots .now) (a .order .now) _ _ _ (c .before .before .before .before .before .before .before .before .before .before .before .before .before .before .before .before .before .before .if1 .taken) (c .before .before .before .before .before .before .before .before .before .before .before .before .search .ensures .0) (c .show .ensures)
 
 sort-and-search-requires : tie.Need-sort-and-search-requires
 sort-and-search-requires c κs = search needs
@@ -57,7 +57,7 @@ returns-2 : tie.Need-returns-2
 returns-2 c =
     let a = c .before .before .before .before .before .before .before .before .before .before .before .before .before .before .before .before .before .before .before .before .before .before .before .before .before .before .before .before .before .before .before .before .before .before .before .before .before .before .before .args in
     sorted-shows _ (question (a .k) (a .factor) (terms (a .asked .now) (a .weights .now) (a .components .now) (a .values .now)) (a .postings .now) (a .blocks .now) (arrays (a .present .now) (a .offsets .now) (a .ids .now) (a .codes .now) (a .minimums .now) (a .steps .now)))
-    (lends (lent (a .length .now) (a .packed .now) (a .scores .now)) (a .visits .now)) (a .dots .now) (a .order .now) _ _ _ _ (c .before .before .before .before .before .before .before .before .before .before .before .before .before .before .before .before .before .before .before .before .before .if1 .left) (c .before .before .before .before .before .before .before .before .before .before .before .before .before .before .sort-and-search .ensures) (c .show2 .ensures)
+    (lends (lent (a .length .now) (a .packed .now) (a .scores .now)) (a .visits .now)) (a .dots .now) (a .order .now) _ _ _ _ (c .before .before .before .before .before .before .before .before .before .before .before .before .before .before .before .before .before .before .before .before .before .if1 .left) (c .before .before .before .before .before .before .before .before .before .before .before .before .before .before .sort-and-search .ensures .0) (c .show2 .ensures)
 
 pub merino-search-spec : {M : Type 1} → statement M
 merino-search-spec =

@@ -1,22 +1,40 @@
--- `page::read`: 14 where the terms don't hold, else the sum over them. Assumes nothing.
+-- `page::read`: by the table where it has a place for each component, else 14 where the terms don't hold or the sum through the sieve. Assumes nothing.
 use mathlib.Core.Path.{sym, _∙_}
-use Rattle.page.proofs.Laws.{reads as reads-law, breaks}
+use Rattle.page.proofs.Laws.{reads-laid, reads as reads-law, breaks, below-even}
 use Rattle.page.specs.Reads.{holds-even}
 use borrow.Author.Needs.{needs}
 use Rattle.page.proofs.read.Statement.{statement}
 use Rattle.page.proofs.read.Tie as tie
 
+slices-hold-below-requires : tie.Need-slices-hold-below-requires
+slices-hold-below-requires c κs = search needs
+
+laid-sum-requires : tie.Need-laid-sum-requires
+laid-sum-requires c κs = let a = c .before .before .before .before .before .before .args in below-even (a .components .now) (a .values .now) (sym (c .before .slices-hold-below .ensures) ∙ c .if1 .taken)
+
+returns : tie.Need-returns
+returns c = let a = c .before .before .before .before .before .before .before .args in reads-laid (a .table .now) (a .sieve .now) (a .asked .now) (a .weights .now) (a .components .now) (a .values .now) (sym (c .before .before .slices-hold-below .ensures) ∙ c .before .if1 .taken) (c .laid-sum .result) (c .laid-sum .ensures)
+
 slices-hold-requires : tie.Need-slices-hold-requires
 slices-hold-requires c κs = search needs
 
 walk-requires : tie.Need-walk-requires
-walk-requires c κs = let a = c .before .before .before .before .before .before .args in holds-even (a .components .now) (a .values .now) (sym (c .before .slices-hold .ensures) ∙ c .if1 .taken)
-
-returns : tie.Need-returns
-returns c = let a = c .before .before .before .before .before .before .before .args in reads-law (a .sieve .now) (a .asked .now) (a .weights .now) (a .components .now) (a .values .now) (sym (c .before .before .slices-hold .ensures) ∙ c .before .if1 .taken) (c .walk .result) (c .walk .ensures)
+walk-requires c κs = let a = c .before .before .before .before .before .before .before .before .args in holds-even (a .components .now) (a .values .now) (sym (c .before .slices-hold .ensures) ∙ c .if2 .taken)
 
 returns-2 : tie.Need-returns-2
-returns-2 c = let a = c .before .before .before .before .before .before .args in breaks (a .sieve .now) (a .asked .now) (a .weights .now) (a .components .now) (a .values .now) (sym (c .before .slices-hold .ensures) ∙ c .if1 .left)
+returns-2 c = let a = c .before .before .before .before .before .before .before .before .before .args in reads-law (a .table .now) (a .sieve .now) (a .asked .now) (a .weights .now) (a .components .now) (a .values .now) (sym (c .before .before .before .before .slices-hold-below .ensures) ∙ c .before .before .before .if1 .left) (sym (c .before .before .slices-hold .ensures) ∙ c .before .if2 .taken) (c .walk .result) (c .walk .ensures)
+
+returns-3 : tie.Need-returns-3
+returns-3 c = let a = c .before .before .before .before .before .before .before .before .args in breaks (a .table .now) (a .sieve .now) (a .asked .now) (a .weights .now) (a .components .now) (a .values .now) (sym (c .before .before .before .slices-hold-below .ensures) ∙ c .before .before .if1 .left) (sym (c .before .slices-hold .ensures) ∙ c .if2 .left)
 
 pub read-spec : {M : Type 1} → statement M
-read-spec = tie.close (tie.spec slices-hold-requires walk-requires returns returns-2)
+read-spec =
+    tie.close
+    (tie.spec
+    slices-hold-below-requires
+    laid-sum-requires
+    returns
+    slices-hold-requires
+    walk-requires
+    returns-2
+    returns-3)

@@ -25,7 +25,7 @@ returns : tie.Need-returns
 returns c = let a = c .before .before .before .before .before .before .before .before .before .before .before .before .args in eval-passed (a .k) (rangeReading (a .asked .now) (a .weights .now) (a .components .now) (a .values .now)) (a .posting .0) (a .position) (a .counts) (lends (lent (a .length .now) (a .packed .now) (a .scores .now)) (a .visits .now)) (visited-by (a .posting .0) (c .before .before .before .before .unpack .result) (c .before .before .before .before .unpack .ensures) (a .visits .now) (c .before .is-visited .result) (c .before .is-visited .ensures) ∙ c .if1 .taken)
 
 read-range-requires : tie.Need-read-range-requires
-read-range-requires c κs = let a = c .before .before .before .before .before .before .before .before .before .before .before .before .args in let r = c .before .before .before .before .before .before .before .before .before .before .before .before .pre .0 in (record { sieve-is = r .sieve-is; query-holds = r .query-holds; even = r .even; has-bytes = omega arith }, end-by (a .posting .0) (c .before .before .before .before .unpack .result) (c .before .before .before .before .unpack .ensures))
+read-range-requires c κs = let a = c .before .before .before .before .before .before .before .before .before .before .before .before .args in let r = c .before .before .before .before .before .before .before .before .before .before .before .before .pre .0 in (record { table-is = r .table-is; sieve-is = r .sieve-is; query-holds = r .query-holds; even = r .even; has-bytes = omega arith }, end-by (a .posting .0) (c .before .before .before .before .unpack .result) (c .before .before .before .before .unpack .ensures))
 
 enum-told : tie.Need-enum-told
 enum-told c = search needs
@@ -39,8 +39,8 @@ enum-known-r c = search needs
 keep-found-requires : tie.Need-keep-found-requires
 keep-found-requires c κs = search needs
 
-add-t32 : tie.Need-add-t32
-add-t32 c = let a = c .before .before .before .before .before .before .before .before .before .before .before .before .before .before .before .before .before .before .before .before .before .before .before .before .before .before .before .before .args in omega (arith, one-more (a .posting .0) (c .before .before .before .before .before .before .before .before .before .before .before .before .before .before .before .before .before .before .before .before .unpack .result) (c .before .before .before .before .before .before .before .before .before .before .before .before .before .before .before .before .before .before .before .before .unpack .ensures) (a .sieve .now) (a .asked .now) (a .weights .now) (a .components .now) (a .values .now) (a .visits .now) (a .counts .evaluated) (c .before .before .before .before .before .before .before .before .before .before .before .before .before .r .given .0 .0) (c .before .before .before .before .before .before .before .before .before .before .before .before .before .before .before .before .before .before .before .before .before .before .before .before .before .before .before .before .pre .0) (sym (c .before .before .before .before .before .before .before .before .before .before .before .before .before .before .before .before .if1 .left) ∙ c .before .before .before .before .before .before .before .before .before .before .before .before .before .before .before .before .before .is-visited .ensures) (sym (c .before .before .before .before .before .before .before .before .before .before .before .before .before .r .given .1) ∙ c .before .before .before .before .before .before .before .before .before .before .before .before .before .before .before .read-range .ensures) (c .before .before .before .before .before .before .before .before .before .before .before .before .before .before .before .before .before .before .before .before .before .before .before .before .before .before .before .before .pre .1), c .before .before .before .before .before .before .before .before .before .before .before .before .before .before .before .before .before .before .before .before .before .before .before .before .before .before .before .before .good .1 .1 .1 .1 .1 .1 .1 .1 .1 .1 .1 .0 .0)
+add-t33 : tie.Need-add-t33
+add-t33 c = let a = c .before .before .before .before .before .before .before .before .before .before .before .before .before .before .before .before .before .before .before .before .before .before .before .before .before .before .before .before .args in omega (arith, one-more (a .posting .0) (c .before .before .before .before .before .before .before .before .before .before .before .before .before .before .before .before .before .before .before .before .unpack .result) (c .before .before .before .before .before .before .before .before .before .before .before .before .before .before .before .before .before .before .before .before .unpack .ensures) (a .table .now) (a .sieve .now) (a .asked .now) (a .weights .now) (a .components .now) (a .values .now) (a .visits .now) (a .counts .evaluated) (c .before .before .before .before .before .before .before .before .before .before .before .before .before .r .given .0 .0) (c .before .before .before .before .before .before .before .before .before .before .before .before .before .before .before .before .before .before .before .before .before .before .before .before .before .before .before .before .pre .0) (sym (c .before .before .before .before .before .before .before .before .before .before .before .before .before .before .before .before .if1 .left) ∙ c .before .before .before .before .before .before .before .before .before .before .before .before .before .before .before .before .before .is-visited .ensures) (sym (c .before .before .before .before .before .before .before .before .before .before .before .before .before .r .given .1) ∙ c .before .before .before .before .before .before .before .before .before .before .before .before .before .before .before .read-range .ensures) (c .before .before .before .before .before .before .before .before .before .before .before .before .before .before .before .before .before .before .before .before .before .before .before .before .before .before .before .before .pre .1), c .before .before .before .before .before .before .before .before .before .before .before .before .before .before .before .before .before .before .before .before .before .before .before .before .before .before .before .before .good .1 .1 .1 .1 .1 .1 .1 .1 .1 .1 .1 .1 .0 .0)
 
 same-length-2 : tie.Need-same-length-2
 same-length-2 c = search needs
@@ -79,7 +79,7 @@ evaluate-spec =
     enum-told-2
     enum-known-r
     keep-found-requires
-    add-t32
+    add-t33
     same-length-2
     returns-2
     same-length-3

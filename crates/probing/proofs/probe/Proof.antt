@@ -2,7 +2,7 @@
 use lib.ListN.{length}
 use Rattle.kept_list.specs.Lent.{lent}
 use Rattle.probing.specs.Probed.{terms, lends, listed}
-use Rattle.probing.proofs.Probes.{refused-is, ready-of, bytes-are, one-more-byte, so-many-bytes, accepted-is}
+use Rattle.probing.proofs.Probes.{refused-is, laid-out, ready-of, bytes-are, one-more-byte, so-many-bytes, accepted-is}
 use borrow.Author.Needs.{needs}
 use Rattle.probing.proofs.probe.Statement.{statement}
 use Rattle.probing.proofs.probe.Tie as tie
@@ -28,20 +28,23 @@ returns c = let a = c .before .before .before .before .before .before .before .b
 enum-told : tie.Need-enum-told
 enum-told c = search needs
 
-sieve-of-requires : tie.Need-sieve-of-requires
-sieve-of-requires c κs = search needs
-
 add-bytes : tie.Need-add-bytes
 add-bytes c = search needs
 
+lay-requires : tie.Need-lay-requires
+lay-requires c κs = search needs
+
+sieve-of-requires : tie.Need-sieve-of-requires
+sieve-of-requires c κs = search needs
+
 slice-relend-prefix-sweep : tie.Need-slice-relend-prefix-sweep
-slice-relend-prefix-sweep c = let a = c .before .before .before .before .before .before .before .before .before .before .before .before .before .before .before .before .before .before .before .before .before .before .before .args in one-more-byte (length (a .components .now)) (length (a .visits .now)) (bytes-are (a .k) (terms (a .asked .now) (a .weights .now) (a .components .now) (a .values .now)) (lends (lent (a .length .now) (a .packed .now) (a .scores .now)) (a .visits .now)) (c .before .before .before .before .before .before .before .admit .result) (c .before .before .before .before .before .before .before .admit .ensures) (c .before .before .before .before .before .enum-told .given .1))
+slice-relend-prefix-sweep c = let a = c .before .before .before .before .before .before .before .before .before .before .before .before .before .before .before .before .before .before .before .before .before .before .before .before .before .before .args in one-more-byte (length (a .components .now)) (length (a .visits .now)) (bytes-are (a .k) (terms (a .asked .now) (a .weights .now) (a .components .now) (a .values .now)) (lends (lent (a .length .now) (a .packed .now) (a .scores .now)) (a .visits .now)) (c .before .before .before .before .before .before .before .before .before .before .admit .result) (c .before .before .before .before .before .before .before .before .before .before .admit .ensures) (c .before .before .before .before .before .before .before .before .enum-told .given .1))
 
 slice-aggregate-sweep : tie.Need-slice-aggregate-sweep
-slice-aggregate-sweep c = let a = c .before .before .before .before .before .before .before .before .before .before .before .before .before .before .before .before .before .before .before .before .before .before .before .before .args in so-many-bytes (length (a .components .now)) (a .visits .now) (bytes-are (a .k) (terms (a .asked .now) (a .weights .now) (a .components .now) (a .values .now)) (lends (lent (a .length .now) (a .packed .now) (a .scores .now)) (a .visits .now)) (c .before .before .before .before .before .before .before .before .admit .result) (c .before .before .before .before .before .before .before .before .admit .ensures) (c .before .before .before .before .before .before .enum-told .given .1))
+slice-aggregate-sweep c = let a = c .before .before .before .before .before .before .before .before .before .before .before .before .before .before .before .before .before .before .before .before .before .before .before .before .before .before .before .args in so-many-bytes (length (a .components .now)) (a .visits .now) (bytes-are (a .k) (terms (a .asked .now) (a .weights .now) (a .components .now) (a .values .now)) (lends (lent (a .length .now) (a .packed .now) (a .scores .now)) (a .visits .now)) (c .before .before .before .before .before .before .before .before .before .before .before .admit .result) (c .before .before .before .before .before .before .before .before .before .before .before .admit .ensures) (c .before .before .before .before .before .before .before .before .before .enum-told .given .1))
 
 sweep-requires : tie.Need-sweep-requires
-sweep-requires c κs = let a = c .before .before .before .before .before .before .before .before .before .before .before .before .before .before .before .before .before .before .before .before .before .before .before .before .args in ready-of (a .k) (terms (a .asked .now) (a .weights .now) (a .components .now) (a .values .now)) (lends (lent (a .length .now) (a .packed .now) (a .scores .now)) (a .visits .now)) (c .before .before .before .before .before .before .before .before .admit .result) (c .before .before .before .before .before .before .before .before .admit .ensures) (c .before .before .before .before .before .before .enum-told .given .1) _ (c .before .before .before .before .before .sieve-of .ensures)
+sweep-requires c κs = let a = c .before .before .before .before .before .before .before .before .before .before .before .before .before .before .before .before .before .before .before .before .before .before .before .before .before .before .before .args in ready-of (a .k) (terms (a .asked .now) (a .weights .now) (a .components .now) (a .values .now)) (lends (lent (a .length .now) (a .packed .now) (a .scores .now)) (a .visits .now)) (c .before .before .before .before .before .before .before .before .before .before .before .admit .result) (c .before .before .before .before .before .before .before .before .before .before .before .admit .ensures) (c .before .before .before .before .before .before .before .before .before .enum-told .given .1) _ (laid-out _ (a .asked .now) (a .weights .now) (c .before .before .before .before .before .before .before .lay .ensures)) _ (c .before .before .before .before .before .before .sieve-of .ensures)
 
 finish-requires : tie.Need-finish-requires
 finish-requires c κs = search needs
@@ -56,7 +59,7 @@ same-length-6 : tie.Need-same-length-6
 same-length-6 c = search needs
 
 returns-2 : tie.Need-returns-2
-returns-2 c = let a = c .before .before .before .before .before .before .before .before .before .before .before .before .before .before .before .before .before .before .before .before .before .before .before .before .before .before .before .before .before .before .before .before .args in accepted-is (a .k) (terms (a .asked .now) (a .weights .now) (a .components .now) (a .values .now)) (lends (lent (a .length .now) (a .packed .now) (a .scores .now)) (a .visits .now)) (c .before .before .before .before .before .before .before .before .before .before .before .before .before .before .before .before .admit .result) (c .before .before .before .before .before .before .before .before .before .before .before .before .before .before .before .before .admit .ensures) (c .before .before .before .before .before .before .before .before .before .before .before .before .before .before .enum-told .given .1) (a .factor) (a .postings .now) (a .offsets .now) (a .dots .now) (listed (a .order .now) (a .turns)) _ _ _ (c .before .before .before .before .before .before .before .sweep .ensures) (c .finish .ensures)
+returns-2 c = let a = c .before .before .before .before .before .before .before .before .before .before .before .before .before .before .before .before .before .before .before .before .before .before .before .before .before .before .before .before .before .before .before .before .before .before .before .args in accepted-is (a .k) (terms (a .asked .now) (a .weights .now) (a .components .now) (a .values .now)) (lends (lent (a .length .now) (a .packed .now) (a .scores .now)) (a .visits .now)) (c .before .before .before .before .before .before .before .before .before .before .before .before .before .before .before .before .before .before .before .admit .result) (c .before .before .before .before .before .before .before .before .before .before .before .before .before .before .before .before .before .before .before .admit .ensures) (c .before .before .before .before .before .before .before .before .before .before .before .before .before .before .before .before .before .enum-told .given .1) (a .factor) (a .postings .now) (a .offsets .now) (a .dots .now) (listed (a .order .now) (a .turns)) _ _ _ (c .before .before .before .before .before .before .before .sweep .ensures) (c .finish .ensures)
 
 pub probe-spec : {M : Type 1} → statement M
 probe-spec =
@@ -69,8 +72,9 @@ probe-spec =
     same-length-3
     returns
     enum-told
-    sieve-of-requires
     add-bytes
+    lay-requires
+    sieve-of-requires
     slice-relend-prefix-sweep
     slice-aggregate-sweep
     sweep-requires

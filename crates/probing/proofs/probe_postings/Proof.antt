@@ -16,25 +16,25 @@ use Rattle.probing.proofs.probe_postings.Statement.{statement}
 use Rattle.probing.proofs.probe_postings.Tie as tie
 
 abbrev Inv-loop : tie.InvT-loop
-Inv-loop sieve asked weights components values k postings first end length₀ packed₀ scores₀ visits₀ c₀ i₀ length packed scores visits c i =
+Inv-loop table sieve asked weights components values k postings first end length₀ packed₀ scores₀ visits₀ c₀ i₀ length packed scores visits c i =
     (len packed ≡ len packed₀) × (len scores ≡ len scores₀) × (len visits ≡ len visits₀) × (c .evaluated + unvisited visits ≡ c₀ .evaluated + unvisited visits₀)
     × (heldProbe k (rangeReading asked weights components values) postings (from i (end - i)) c (lends (lent length packed scores) visits)
     ≡ heldProbe k (rangeReading asked weights components values) postings (from first (end - first)) c₀ (lends (lent length₀ packed₀ scores₀) visits₀))
 
 abbrev μ-loop : tie.MeasureT-loop
-μ-loop sieve asked weights components values k postings first end length₀ packed₀ scores₀ visits₀ c₀ i₀ length packed scores visits c i = end - i
+μ-loop table sieve asked weights components values k postings first end length₀ packed₀ scores₀ visits₀ c₀ i₀ length packed scores visits c i = end - i
 
 loop-holds : tie.Need-loop-holds Inv-loop μ-loop
 loop-holds c = (refl, refl, refl, refl, refl)
 
-mul-t22 : tie.Need-mul-t22 Inv-loop μ-loop
-mul-t22 c = search needs
+mul-t23 : tie.Need-mul-t23 Inv-loop μ-loop
+mul-t23 c = search needs
 
-shared-slice-read-t24 : tie.Need-shared-slice-read-t24 Inv-loop μ-loop
-shared-slice-read-t24 c = search needs
+shared-slice-read-t25 : tie.Need-shared-slice-read-t25 Inv-loop μ-loop
+shared-slice-read-t25 c = search needs
 
 evaluate-requires : tie.Need-evaluate-requires Inv-loop μ-loop
-evaluate-requires c κs = let l = c .before .before .before .before .before .before .loop in let a = c .before .before .before .before .before .before .before .before .before .before .before .before .before .before .before .args in (ready-same (a .sieve .now) (a .asked .now) (a .weights .now) (a .components .now) (a .values .now) (len (a .visits .now)) (len (l .visits)) (c .before .before .before .before .before .before .before .before .before .before .before .before .before .before .before .pre .0) (l .inv .2), omega (arith, l .inv .2, l .inv .3, c .before .before .before .before .before .before .before .before .before .before .before .before .before .before .before .pre .1 .0))
+evaluate-requires c κs = let l = c .before .before .before .before .before .before .loop in let a = c .before .before .before .before .before .before .before .before .before .before .before .before .before .before .before .args in (ready-same (a .table .now) (a .sieve .now) (a .asked .now) (a .weights .now) (a .components .now) (a .values .now) (len (a .visits .now)) (len (l .visits)) (c .before .before .before .before .before .before .before .before .before .before .before .before .before .before .before .pre .0) (l .inv .2), omega (arith, l .inv .2, l .inv .3, c .before .before .before .before .before .before .before .before .before .before .before .before .before .before .before .pre .1 .0))
 
 enum-known-t : tie.Need-enum-known-t Inv-loop μ-loop
 enum-known-t c = search needs
@@ -64,7 +64,7 @@ loop-again : tie.Need-loop-again Inv-loop μ-loop
 loop-again c =
     let l = c .before .before .before .before .before .before .before .before .before .before .before .before .before .before .before .before .loop in
     let a = c .before .before .before .before .before .before .before .before .before .before .before .before .before .before .before .before .before .before .before .before .before .before .before .before .before .args in
-    let q = kept-on (l .c .skipped) (l .c) (l .visits) (c .before .before .before .before .before .before .before .before .before .evaluate .result) _ _ _ (c .before .before .before .before .before .before .before .before .before .evaluate .ensures) (evaluate-keeps (a .k) (rangeReading (a .asked .now) (a .weights .now) (a .components .now) (a .values .now)) (getD (a .postings .now) (l .i) 0) (l .i) (l .c .skipped) (l .c) (lends (lent (l .length) (l .packed) (l .scores)) (l .visits)) (ready-bytes (a .sieve .now) (a .asked .now) (a .weights .now) (a .components .now) (a .values .now) (len (l .visits)) (ready-same (a .sieve .now) (a .asked .now) (a .weights .now) (a .components .now) (a .values .now) (len (a .visits .now)) (len (l .visits)) (c .before .before .before .before .before .before .before .before .before .before .before .before .before .before .before .before .before .before .before .before .before .before .before .before .before .pre .0) (l .inv .2))) (omega arith)) (c .before .t .given .1) in (
+    let q = kept-on (l .c .skipped) (l .c) (l .visits) (c .before .before .before .before .before .before .before .before .before .evaluate .result) _ _ _ (c .before .before .before .before .before .before .before .before .before .evaluate .ensures) (evaluate-keeps (a .k) (rangeReading (a .asked .now) (a .weights .now) (a .components .now) (a .values .now)) (getD (a .postings .now) (l .i) 0) (l .i) (l .c .skipped) (l .c) (lends (lent (l .length) (l .packed) (l .scores)) (l .visits)) (ready-bytes (a .table .now) (a .sieve .now) (a .asked .now) (a .weights .now) (a .components .now) (a .values .now) (len (l .visits)) (ready-same (a .table .now) (a .sieve .now) (a .asked .now) (a .weights .now) (a .components .now) (a .values .now) (len (a .visits .now)) (len (l .visits)) (c .before .before .before .before .before .before .before .before .before .before .before .before .before .before .before .before .before .before .before .before .before .before .before .before .before .pre .0) (l .inv .2))) (omega arith)) (c .before .t .given .1) in (
       search needs,
       search needs,
       q .1 ∙ l .inv .2,
@@ -91,8 +91,8 @@ probe-postings-spec =
     Inv-loop
     μ-loop
     loop-holds
-    mul-t22
-    shared-slice-read-t24
+    mul-t23
+    shared-slice-read-t25
     evaluate-requires
     enum-known-t
     enum-known-t-2

@@ -45,10 +45,10 @@ enum-known-r : tie.Need-enum-known-r
 enum-known-r c = search needs
 
 returns-2 : tie.Need-returns-2
-returns-2 c = let a = c .before .before .before .before .before .before .before .before .before .before .args in ap ofPage (sym (c .enum-told .given .1)) ∙ range-read (a .sieve .now) (a .asked .now) (a .weights .now) (a .components .now) (a .values .now) (length (a .components .now) + 1) (a .start .0) (a .end) (c .before .before .read .result) (c .before .before .before .before .before .before .before .before .before .before .pre .0) (c .before .before .before .before .before .if1 .left) (c .before .before .read .ensures)
+returns-2 c = let a = c .before .before .before .before .before .before .before .before .before .before .args in ap ofPage (sym (c .enum-told .given .1)) ∙ range-read (a .table .now) (a .sieve .now) (a .asked .now) (a .weights .now) (a .components .now) (a .values .now) (length (a .components .now) + 1) (a .start .0) (a .end) (c .before .before .read .result) (c .before .before .before .before .before .before .before .before .before .before .pre .0) (c .before .before .before .before .before .if1 .left) (c .before .before .read .ensures)
 
 returns-3 : tie.Need-returns-3
-returns-3 c = let a = c .before .before .before .before .before .before .before .before .before .before .before .args in ap ofPage (sym (c .before .r .given .1)) ∙ range-read (a .sieve .now) (a .asked .now) (a .weights .now) (a .components .now) (a .values .now) (length (a .components .now) + 1) (a .start .0) (a .end) (c .before .before .before .read .result) (c .before .before .before .before .before .before .before .before .before .before .before .pre .0) (c .before .before .before .before .before .before .if1 .left) (c .before .before .before .read .ensures)
+returns-3 c = let a = c .before .before .before .before .before .before .before .before .before .before .before .args in ap ofPage (sym (c .before .r .given .1)) ∙ range-read (a .table .now) (a .sieve .now) (a .asked .now) (a .weights .now) (a .components .now) (a .values .now) (length (a .components .now) + 1) (a .start .0) (a .end) (c .before .before .before .read .result) (c .before .before .before .before .before .before .before .before .before .before .before .pre .0) (c .before .before .before .before .before .before .if1 .left) (c .before .before .before .read .ensures)
 
 pub read-range-spec : {M : Type 1} → statement M
 read-range-spec =

@@ -5,7 +5,7 @@ use lib.ListN.{length as len, getD}
 use Rattle.kept_list.specs.Lent.{lent}
 use Rattle.probing.specs.Ranges.{rangeReading}
 use Rattle.probing.specs.Probed.{lends, listed}
-use Rattle.probing.specs.Held.{counts as counted, blockAt, heldSweep}
+use Rattle.probing.specs.Held.{counts as counted, worstHeld, blockAt, heldSweep}
 use Rattle.probing.specs.Counted.{unvisited, unvisited-few, kept-on, turn-keeps}
 use Rattle.probing.proofs.Steps.{ready-bytes, ready-same}
 use Rattle.probing.proofs.Turns.{sweep-on, sweep-stop, sweep-end, listedFrom, listed-next, listed-none, listed-all}
@@ -15,16 +15,20 @@ use Rattle.probing.proofs.sweep.Statement.{statement}
 use Rattle.probing.proofs.sweep.Tie as tie
 
 abbrev Inv-loop : tie.InvT-loop
-Inv-loop sieve asked weights components values k factor postings offsets dots order turns length₀ packed₀ scores₀ visits₀ c₀ i₀ length packed scores visits c i =
+Inv-loop table sieve asked weights components values k factor postings offsets dots order turns length₀ packed₀ scores₀ visits₀ c₀ worst₀ i₀ length packed scores visits c worst i =
     (len packed ≡ len packed₀) × (len scores ≡ len scores₀) × (len visits ≡ len visits₀) × (c .evaluated + unvisited visits ≡ 0 + unvisited visits₀) × (c .skipped ≤ i)
     × (heldSweep k factor (rangeReading asked weights components values) postings offsets dots (listedFrom order i turns) c (lends (lent length packed scores) visits)
     ≡ heldSweep k factor (rangeReading asked weights components values) postings offsets dots (listed order turns) (counted 0 0) (lends (lent length₀ packed₀ scores₀) visits₀))
+    × (worst ≡ worstHeld length scores)
 
 abbrev μ-loop : tie.MeasureT-loop
-μ-loop sieve asked weights components values k factor postings offsets dots order turns length₀ packed₀ scores₀ visits₀ c₀ i₀ length packed scores visits c i = turns - i
+μ-loop table sieve asked weights components values k factor postings offsets dots order turns length₀ packed₀ scores₀ visits₀ c₀ worst₀ i₀ length packed scores visits c worst i = turns - i
+
+worst-kept-requires : tie.Need-worst-kept-requires Inv-loop μ-loop
+worst-kept-requires c κs = search needs
 
 loop-holds : tie.Need-loop-holds Inv-loop μ-loop
-loop-holds c = (refl, refl, refl, refl, omega arith, let a = c .before .before .before .before .before .before .before .before .before .before .before .args in ap (λ bs. heldSweep (a .k) (a .factor) (rangeReading (a .asked .now) (a .weights .now) (a .components .now) (a .values .now)) (a .postings .now) (a .offsets .now) (a .dots .now) bs (counted 0 0) (lends (lent (a .length .now) (a .packed .now) (a .scores .now)) (a .visits .now))) (listed-all (a .order .now) (a .turns)))
+loop-holds c = (refl, refl, refl, refl, omega arith, let a = c .before .before .before .before .before .before .before .before .before .before .before .before .before .before .args in ap (λ bs. heldSweep (a .k) (a .factor) (rangeReading (a .asked .now) (a .weights .now) (a .components .now) (a .values .now)) (a .postings .now) (a .offsets .now) (a .dots .now) bs (counted 0 0) (lends (lent (a .length .now) (a .packed .now) (a .scores .now)) (a .visits .now))) (listed-all (a .order .now) (a .turns)), c .worst-kept .ensures)
 
 number-at-requires : tie.Need-number-at-requires Inv-loop μ-loop
 number-at-requires c κs = search needs
@@ -33,7 +37,7 @@ block-at-requires : tie.Need-block-at-requires Inv-loop μ-loop
 block-at-requires c κs = search needs
 
 take-turn-requires : tie.Need-take-turn-requires Inv-loop μ-loop
-take-turn-requires c κs = let l = c .before .before .before .before .before .before .before .loop in let a = c .before .before .before .before .before .before .before .before .before .before .before .before .before .before .before .before .before .before .before .args in (ready-same (a .sieve .now) (a .asked .now) (a .weights .now) (a .components .now) (a .values .now) (len (a .visits .now)) (len (l .visits)) (c .before .before .before .before .before .before .before .before .before .before .before .before .before .before .before .before .before .before .before .pre) (l .inv .2), (omega (arith, l .inv .2, l .inv .3, unvisited-few (a .visits .now)), omega (arith, l .inv .4, c .before .before .before .before .before .before .loop-test .taken, c .before .before .before .before .before .before .before .before .before .before .before .before .before .before .before .before .before .before .before .fits .turns)))
+take-turn-requires c κs = let l = c .before .before .before .before .before .before .before .loop in let a = c .before .before .before .before .before .before .before .before .before .before .before .before .before .before .before .before .before .before .before .before .before .before .args in (ready-same (a .table .now) (a .sieve .now) (a .asked .now) (a .weights .now) (a .components .now) (a .values .now) (len (a .visits .now)) (len (l .visits)) (c .before .before .before .before .before .before .before .before .before .before .before .before .before .before .before .before .before .before .before .before .before .before .pre) (l .inv .2), (omega (arith, l .inv .2, l .inv .3, unvisited-few (a .visits .now)), (omega (arith, l .inv .4, c .before .before .before .before .before .before .loop-test .taken, c .before .before .before .before .before .before .before .before .before .before .before .before .before .before .before .before .before .before .before .before .before .before .fits .turns), l .inv .6)))
 
 enum-known-t : tie.Need-enum-known-t Inv-loop μ-loop
 enum-known-t c = search needs
@@ -51,25 +55,29 @@ same-length-3 : tie.Need-same-length-3 Inv-loop μ-loop
 same-length-3 c = search needs
 
 returns : tie.Need-returns Inv-loop μ-loop
-returns c = let l = c .before .before .before .before .before .before .before .before .before .before .before .before .before .before .before .before .before .loop in let a = c .before .before .before .before .before .before .before .before .before .before .before .before .before .before .before .before .before .before .before .before .before .before .before .before .before .before .before .before .before .args in sweep-stop (a .k) (a .factor) (rangeReading (a .asked .now) (a .weights .now) (a .components .now) (a .values .now)) (a .postings .now) (a .offsets .now) (a .dots .now) (getD (a .order .now) (l .i) (l .i)) _ _ (listed-next (a .order .now) (l .i) (a .turns) (c .before .before .before .before .before .before .before .before .before .before .before .before .before .before .before .before .loop-test .taken)) (l .c) (lends (lent (l .length) (l .packed) (l .scores)) (l .visits)) (c .before .before .before .before .before .before .before .before .before .before .before .before .before .before .block-at .result) (c .before .before .before .before .before .before .before .before .before .before .before .before .before .before .block-at .ensures ∙ ap (blockAt (a .offsets .now) (a .dots .now)) (c .before .before .before .before .before .before .before .before .before .before .before .before .before .before .before .number-at .ensures)) (c .before .before .before .before .before .before .before .before .before .take-turn .result) _ _ _ (c .before .t2 .given .1) (c .before .before .before .before .before .before .before .before .before .take-turn .ensures) ∙ l .inv .5
+returns c = let l = c .before .before .before .before .before .before .before .before .before .before .before .before .before .before .before .before .before .loop in let a = c .before .before .before .before .before .before .before .before .before .before .before .before .before .before .before .before .before .before .before .before .before .before .before .before .before .before .before .before .before .before .before .before .args in sweep-stop (a .k) (a .factor) (rangeReading (a .asked .now) (a .weights .now) (a .components .now) (a .values .now)) (a .postings .now) (a .offsets .now) (a .dots .now) (getD (a .order .now) (l .i) (l .i)) _ _ (listed-next (a .order .now) (l .i) (a .turns) (c .before .before .before .before .before .before .before .before .before .before .before .before .before .before .before .before .loop-test .taken)) (l .c) (lends (lent (l .length) (l .packed) (l .scores)) (l .visits)) (c .before .before .before .before .before .before .before .before .before .before .before .before .before .before .block-at .result) (c .before .before .before .before .before .before .before .before .before .before .before .before .before .before .block-at .ensures ∙ ap (blockAt (a .offsets .now) (a .dots .now)) (c .before .before .before .before .before .before .before .before .before .before .before .before .before .before .before .number-at .ensures)) (c .before .before .before .before .before .before .before .before .before .take-turn .result) _ _ _ (c .before .t2 .given .1) (c .before .before .before .before .before .before .before .before .before .take-turn .ensures) ∙ l .inv .5
+
+worst-kept-requires-2 : tie.Need-worst-kept-requires-2 Inv-loop μ-loop
+worst-kept-requires-2 c κs = search needs
 
 add-i : tie.Need-add-i Inv-loop μ-loop
-add-i c = omega (arith, c .before .before .before .before .before .before .before .before .before .before .before .before .before .before .before .before .loop-test .taken, c .before .before .before .before .before .before .before .before .before .before .before .before .before .before .before .before .before .before .before .before .before .before .before .before .before .before .before .before .before .fits .turns)
+add-i c = omega (arith, c .before .before .before .before .before .before .before .before .before .before .before .before .before .before .before .before .before .before .before .loop-test .taken, c .before .before .before .before .before .before .before .before .before .before .before .before .before .before .before .before .before .before .before .before .before .before .before .before .before .before .before .before .before .before .before .before .before .before .before .fits .turns)
 
 loop-less : tie.Need-loop-less Inv-loop μ-loop
 loop-less c = search needs
 
 loop-again : tie.Need-loop-again Inv-loop μ-loop
 loop-again c =
-    let l = c .before .before .before .before .before .before .before .before .before .before .before .before .before .before .before .before .before .loop in
-    let a = c .before .before .before .before .before .before .before .before .before .before .before .before .before .before .before .before .before .before .before .before .before .before .before .before .before .before .before .before .before .args in
-    let q = kept-on (l .c .skipped + 1) (l .c) (l .visits) (c .before .before .before .before .before .before .before .before .before .take-turn .result) _ _ _ (c .before .before .before .before .before .before .before .before .before .take-turn .ensures) (turn-keeps (a .k) (rangeReading (a .asked .now) (a .weights .now) (a .components .now) (a .values .now)) (a .factor) (a .postings .now) (c .before .before .before .before .before .before .before .before .before .before .before .before .before .before .block-at .result) (l .c) (lends (lent (l .length) (l .packed) (l .scores)) (l .visits)) (ready-bytes (a .sieve .now) (a .asked .now) (a .weights .now) (a .components .now) (a .values .now) (len (l .visits)) (ready-same (a .sieve .now) (a .asked .now) (a .weights .now) (a .components .now) (a .values .now) (len (a .visits .now)) (len (l .visits)) (c .before .before .before .before .before .before .before .before .before .before .before .before .before .before .before .before .before .before .before .before .before .before .before .before .before .before .before .before .before .pre) (l .inv .2)))) (c .before .t .given .1) in (
+    let l = c .before .before .before .before .before .before .before .before .before .before .before .before .before .before .before .before .before .before .before .before .loop in
+    let a = c .before .before .before .before .before .before .before .before .before .before .before .before .before .before .before .before .before .before .before .before .before .before .before .before .before .before .before .before .before .before .before .before .before .before .before .args in
+    let q = kept-on (l .c .skipped + 1) (l .c) (l .visits) (c .before .before .before .before .before .before .before .before .before .before .before .before .take-turn .result) _ _ _ (c .before .before .before .before .before .before .before .before .before .before .before .before .take-turn .ensures) (turn-keeps (a .k) (rangeReading (a .asked .now) (a .weights .now) (a .components .now) (a .values .now)) (a .factor) (a .postings .now) (c .before .before .before .before .before .before .before .before .before .before .before .before .before .before .before .before .before .block-at .result) (l .c) (lends (lent (l .length) (l .packed) (l .scores)) (l .visits)) (ready-bytes (a .table .now) (a .sieve .now) (a .asked .now) (a .weights .now) (a .components .now) (a .values .now) (len (l .visits)) (ready-same (a .table .now) (a .sieve .now) (a .asked .now) (a .weights .now) (a .components .now) (a .values .now) (len (a .visits .now)) (len (l .visits)) (c .before .before .before .before .before .before .before .before .before .before .before .before .before .before .before .before .before .before .before .before .before .before .before .before .before .before .before .before .before .before .before .before .before .before .before .pre) (l .inv .2)))) (c .before .before .before .before .t .given .1) in (
       search needs,
       search needs,
       q .1 ∙ l .inv .2,
       q .0 ∙ l .inv .3,
       omega (arith, q .2, l .inv .4),
-      sweep-on (a .k) (a .factor) (rangeReading (a .asked .now) (a .weights .now) (a .components .now) (a .values .now)) (a .postings .now) (a .offsets .now) (a .dots .now) (getD (a .order .now) (l .i) (l .i)) _ _ (listed-next (a .order .now) (l .i) (a .turns) (c .before .before .before .before .before .before .before .before .before .before .before .before .before .before .before .before .loop-test .taken)) (l .c) (lends (lent (l .length) (l .packed) (l .scores)) (l .visits)) (c .before .before .before .before .before .before .before .before .before .before .before .before .before .before .block-at .result) (c .before .before .before .before .before .before .before .before .before .before .before .before .before .before .block-at .ensures ∙ ap (blockAt (a .offsets .now) (a .dots .now)) (c .before .before .before .before .before .before .before .before .before .before .before .before .before .before .before .number-at .ensures)) (c .before .before .before .before .before .before .before .before .before .take-turn .result) _ _ (c .before .t .given .1) (c .before .before .before .before .before .before .before .before .before .take-turn .ensures) ∙ l .inv .5,
+      sweep-on (a .k) (a .factor) (rangeReading (a .asked .now) (a .weights .now) (a .components .now) (a .values .now)) (a .postings .now) (a .offsets .now) (a .dots .now) (getD (a .order .now) (l .i) (l .i)) _ _ (listed-next (a .order .now) (l .i) (a .turns) (c .before .before .before .before .before .before .before .before .before .before .before .before .before .before .before .before .before .before .before .loop-test .taken)) (l .c) (lends (lent (l .length) (l .packed) (l .scores)) (l .visits)) (c .before .before .before .before .before .before .before .before .before .before .before .before .before .before .before .before .before .block-at .result) (c .before .before .before .before .before .before .before .before .before .before .before .before .before .before .before .before .before .block-at .ensures ∙ ap (blockAt (a .offsets .now) (a .dots .now)) (c .before .before .before .before .before .before .before .before .before .before .before .before .before .before .before .before .before .before .number-at .ensures)) (c .before .before .before .before .before .before .before .before .before .before .before .before .take-turn .result) _ _ (c .before .before .before .before .t .given .1) (c .before .before .before .before .before .before .before .before .before .before .before .before .take-turn .ensures) ∙ l .inv .5,
+      c .worst-kept2 .ensures,
     )
 
 same-length-4 : tie.Need-same-length-4 Inv-loop μ-loop
@@ -82,7 +90,7 @@ same-length-6 : tie.Need-same-length-6 Inv-loop μ-loop
 same-length-6 c = search needs
 
 returns-2 : tie.Need-returns-2 Inv-loop μ-loop
-returns-2 c = let l = c .before .loop in let a = c .before .before .before .before .before .before .before .before .before .before .before .before .before .args in sweep-end (a .k) (a .factor) (rangeReading (a .asked .now) (a .weights .now) (a .components .now) (a .values .now)) (a .postings .now) (a .offsets .now) (a .dots .now) _ (l .c) (lends (lent (l .length) (l .packed) (l .scores)) (l .visits)) (listed-none (a .order .now) (l .i) (a .turns) (c .loop-test .left)) ∙ l .inv .5
+returns-2 c = let l = c .before .loop in let a = c .before .before .before .before .before .before .before .before .before .before .before .before .before .before .before .before .args in sweep-end (a .k) (a .factor) (rangeReading (a .asked .now) (a .weights .now) (a .components .now) (a .values .now)) (a .postings .now) (a .offsets .now) (a .dots .now) _ (l .c) (lends (lent (l .length) (l .packed) (l .scores)) (l .visits)) (listed-none (a .order .now) (l .i) (a .turns) (c .loop-test .left)) ∙ l .inv .5
 
 pub sweep-spec : {M : Type 1} → statement M
 sweep-spec =
@@ -90,6 +98,7 @@ sweep-spec =
     (tie.spec
     Inv-loop
     μ-loop
+    worst-kept-requires
     loop-holds
     number-at-requires
     block-at-requires
@@ -100,6 +109,7 @@ sweep-spec =
     same-length-2
     same-length-3
     returns
+    worst-kept-requires-2
     add-i
     loop-less
     loop-again

@@ -6,7 +6,7 @@ use Rattle.probing.specs.Probed.{terms, lends}
 use lib.ListN.{length}
 use Rattle.search.specs.Searched.{question, scoresFor}
 use Rattle.search.proofs.Fronts.{put-room, front-length}
-use Rattle.search.proofs.Tops.{refused-search, score-room, accepted-search}
+use Rattle.search.proofs.Tops.{refused-search, score-room, whole-search}
 use borrow.Author.Needs.{needs}
 use Rattle.search.proofs.search.Statement.{statement}
 use Rattle.search.proofs.search.Tie as tie
@@ -27,7 +27,7 @@ same-length-3 : tie.Need-same-length-3
 same-length-3 c = search needs
 
 returns : tie.Need-returns
-returns c = let a = c .before .before .before .before .before .before .before .before .before .before .before .before .before .before .before .before .before .before .before .before .before .before .before .before .args in refused-search (question (a .k) (a .factor) (terms (a .asked .now) (a .weights .now) (a .components .now) (a .values .now)) (a .postings .now) (a .blocks .now) (arrays (a .present .now) (a .offsets .now) (a .ids .now) (a .codes .now) (a .minimums .now) (a .steps .now))) (lends (lent (a .length .now) (a .packed .now) (a .scores .now)) (a .visits .now)) (a .dots .now) (c .before .before .before .admit .result) (c .before .before .before .admit .ensures) _ (c .before .verdict .given .1)
+returns c = let a = c .before .before .before .before .before .before .before .before .before .before .before .before .before .before .before .before .before .before .before .before .before .before .before .before .args in (refused-search (question (a .k) (a .factor) (terms (a .asked .now) (a .weights .now) (a .components .now) (a .values .now)) (a .postings .now) (a .blocks .now) (arrays (a .present .now) (a .offsets .now) (a .ids .now) (a .codes .now) (a .minimums .now) (a .steps .now))) (lends (lent (a .length .now) (a .packed .now) (a .scores .now)) (a .visits .now)) (a .dots .now) (c .before .before .before .admit .result) (c .before .before .before .admit .ensures) _ (c .before .verdict .given .1), refl)
 
 enum-told : tie.Need-enum-told
 enum-told c = search needs
@@ -60,7 +60,7 @@ same-length-7 : tie.Need-same-length-7
 same-length-7 c = search needs
 
 returns-2 : tie.Need-returns-2
-returns-2 c = let a = c .before .before .before .before .before .before .before .before .before .before .before .before .before .before .before .before .before .before .before .before .before .before .before .before .before .before .before .before .before .before .before .before .before .before .before .before .before .before .before .before .args in accepted-search (question (a .k) (a .factor) (terms (a .asked .now) (a .weights .now) (a .components .now) (a .values .now)) (a .postings .now) (a .blocks .now) (arrays (a .present .now) (a .offsets .now) (a .ids .now) (a .codes .now) (a .minimums .now) (a .steps .now))) (lends (lent (a .length .now) (a .packed .now) (a .scores .now)) (a .visits .now)) (a .dots .now) (c .before .before .before .before .before .before .before .before .before .before .before .before .before .before .before .before .before .before .before .admit .result) (c .before .before .before .before .before .before .before .before .before .before .before .before .before .before .before .before .before .before .before .admit .ensures) (c .before .before .before .before .before .before .before .before .before .before .before .before .before .before .before .before .before .enum-told .given .1) _ _ (c .before .before .before .before .before .before .before .before .before .before .before .before .before .before .before .distances .ensures) (c .before .before .before .before .before .before .probe .ensures)
+returns-2 c = let a = c .before .before .before .before .before .before .before .before .before .before .before .before .before .before .before .before .before .before .before .before .before .before .before .before .before .before .before .before .before .before .before .before .before .before .before .before .before .before .before .before .args in whole-search (question (a .k) (a .factor) (terms (a .asked .now) (a .weights .now) (a .components .now) (a .values .now)) (a .postings .now) (a .blocks .now) (arrays (a .present .now) (a .offsets .now) (a .ids .now) (a .codes .now) (a .minimums .now) (a .steps .now))) (lends (lent (a .length .now) (a .packed .now) (a .scores .now)) (a .visits .now)) (a .dots .now) (c .before .before .before .before .before .before .before .before .before .before .before .before .before .before .before .before .before .before .before .admit .result) (c .before .before .before .before .before .before .before .before .before .before .before .before .before .before .before .before .before .before .before .admit .ensures) (c .before .before .before .before .before .before .before .before .before .before .before .before .before .before .before .before .before .enum-told .given .1) (record { weights = λ k. c .before .before .before .before .before .before .before .before .before .before .before .before .before .before .before .before .before .before .before .before .before .before .before .before .before .before .before .before .before .before .before .before .before .before .before .before .before .before .shared-slice-known2 .given k; codes = λ k. c .before .before .before .before .before .before .before .before .before .before .before .before .before .before .before .before .before .before .before .before .before .before .before .before .before .before .before .before .before .before .shared-slice-known10 .given k .fits; minimums = λ k. c .before .before .before .before .before .before .before .before .before .before .before .before .before .before .before .before .before .before .before .before .before .before .before .before .before .before .before .before .before .shared-slice-known11 .given k; steps = λ k. c .before .before .before .before .before .before .before .before .before .before .before .before .before .before .before .before .before .before .before .before .before .before .before .before .before .before .before .before .shared-slice-known12 .given k }) _ _ (c .before .before .before .before .before .before .before .before .before .before .before .before .before .before .before .distances .ensures) (c .before .before .before .before .before .before .probe .ensures)
 
 pub search-spec : {M : Type 1} → statement M
 search-spec =

@@ -7,7 +7,7 @@ use Rattle.probing.specs.Probed.{terms, lends}
 use Rattle.search.specs.Order.{byScore}
 use Rattle.search.specs.Searched.{question, scoresFor, orderPlaces}
 use Rattle.search.proofs.Fronts.{put-room, front-length}
-use Rattle.search.proofs.Tops.{few-blocks, as-many, refused-in-order, places-in-order, accepted-in-order}
+use Rattle.search.proofs.Tops.{few-blocks, as-many, refused-in-order, places-in-order, whole-in-order}
 use borrow.Author.Needs.{needs}
 use Rattle.search.proofs.sort_and_search.Statement.{statement}
 use Rattle.search.proofs.sort_and_search.Tie as tie
@@ -28,7 +28,7 @@ same-length-3 : tie.Need-same-length-3
 same-length-3 c = search needs
 
 returns : tie.Need-returns
-returns c = let a = c .before .before .before .before .before .before .before .before .before .before .before .before .before .before .before .before .before .before .before .before .before .before .before .before .before .args in refused-in-order (question (a .k) (a .factor) (terms (a .asked .now) (a .weights .now) (a .components .now) (a .values .now)) (a .postings .now) (a .blocks .now) (arrays (a .present .now) (a .offsets .now) (a .ids .now) (a .codes .now) (a .minimums .now) (a .steps .now))) (lends (lent (a .length .now) (a .packed .now) (a .scores .now)) (a .visits .now)) (a .dots .now) (a .order .now) (c .before .before .before .admit .result) (c .before .before .before .admit .ensures) _ (c .before .verdict .given .1)
+returns c = let a = c .before .before .before .before .before .before .before .before .before .before .before .before .before .before .before .before .before .before .before .before .before .before .before .before .before .args in (refused-in-order (question (a .k) (a .factor) (terms (a .asked .now) (a .weights .now) (a .components .now) (a .values .now)) (a .postings .now) (a .blocks .now) (arrays (a .present .now) (a .offsets .now) (a .ids .now) (a .codes .now) (a .minimums .now) (a .steps .now))) (lends (lent (a .length .now) (a .packed .now) (a .scores .now)) (a .visits .now)) (a .dots .now) (a .order .now) (c .before .before .before .admit .result) (c .before .before .before .admit .ensures) _ (c .before .verdict .given .1), refl)
 
 enum-told : tie.Need-enum-told
 enum-told c = search needs
@@ -67,7 +67,7 @@ same-length-8 : tie.Need-same-length-8
 same-length-8 c = search needs
 
 returns-2 : tie.Need-returns-2
-returns-2 c = let a = c .before .before .before .before .before .before .before .before .before .before .before .before .before .before .before .before .before .before .before .before .before .before .before .before .before .before .before .before .before .before .before .before .before .before .before .before .before .before .before .before .before .before .before .before .args in accepted-in-order (question (a .k) (a .factor) (terms (a .asked .now) (a .weights .now) (a .components .now) (a .values .now)) (a .postings .now) (a .blocks .now) (arrays (a .present .now) (a .offsets .now) (a .ids .now) (a .codes .now) (a .minimums .now) (a .steps .now))) (lends (lent (a .length .now) (a .packed .now) (a .scores .now)) (a .visits .now)) (a .dots .now) (a .order .now) (c .before .before .before .before .before .before .before .before .before .before .before .before .before .before .before .before .before .before .before .before .before .before .admit .result) (c .before .before .before .before .before .before .before .before .before .before .before .before .before .before .before .before .before .before .before .before .before .before .admit .ensures) (c .before .before .before .before .before .before .before .before .before .before .before .before .before .before .before .before .before .before .before .before .enum-told .given .1) _ _ _ (c .before .before .before .before .before .before .before .before .before .before .before .before .before .before .before .before .before .score-and-order .ensures .0) (c .before .before .before .before .before .before .before .before .before .before .before .before .before .before .before .before .before .score-and-order .ensures .1) (c .before .before .before .before .before .before .probe .ensures)
+returns-2 c = let a = c .before .before .before .before .before .before .before .before .before .before .before .before .before .before .before .before .before .before .before .before .before .before .before .before .before .before .before .before .before .before .before .before .before .before .before .before .before .before .before .before .before .before .before .before .args in whole-in-order (question (a .k) (a .factor) (terms (a .asked .now) (a .weights .now) (a .components .now) (a .values .now)) (a .postings .now) (a .blocks .now) (arrays (a .present .now) (a .offsets .now) (a .ids .now) (a .codes .now) (a .minimums .now) (a .steps .now))) (lends (lent (a .length .now) (a .packed .now) (a .scores .now)) (a .visits .now)) (a .dots .now) (a .order .now) (c .before .before .before .before .before .before .before .before .before .before .before .before .before .before .before .before .before .before .before .before .before .before .admit .result) (c .before .before .before .before .before .before .before .before .before .before .before .before .before .before .before .before .before .before .before .before .before .before .admit .ensures) (c .before .before .before .before .before .before .before .before .before .before .before .before .before .before .before .before .before .before .before .before .enum-told .given .1) (record { weights = λ k. c .before .before .before .before .before .before .before .before .before .before .before .before .before .before .before .before .before .before .before .before .before .before .before .before .before .before .before .before .before .before .before .before .before .before .before .before .before .before .before .before .before .before .shared-slice-known2 .given k; codes = λ k. c .before .before .before .before .before .before .before .before .before .before .before .before .before .before .before .before .before .before .before .before .before .before .before .before .before .before .before .before .before .before .before .before .before .before .shared-slice-known10 .given k .fits; minimums = λ k. c .before .before .before .before .before .before .before .before .before .before .before .before .before .before .before .before .before .before .before .before .before .before .before .before .before .before .before .before .before .before .before .before .before .shared-slice-known11 .given k; steps = λ k. c .before .before .before .before .before .before .before .before .before .before .before .before .before .before .before .before .before .before .before .before .before .before .before .before .before .before .before .before .before .before .before .before .shared-slice-known12 .given k }) _ _ _ (c .before .before .before .before .before .before .before .before .before .before .before .before .before .before .before .before .before .score-and-order .ensures .0) (c .before .before .before .before .before .before .before .before .before .before .before .before .before .before .before .before .before .score-and-order .ensures .1) (c .before .before .before .before .before .before .probe .ensures)
 
 pub sort-and-search-spec : {M : Type 1} → statement M
 sort-and-search-spec =

@@ -1,16 +1,8 @@
 //! pages [SECONDS]: ns per page of the proved search, every check included, beside a dense lookup without checks, in one run.
 //! One block of pages of 120 terms, a query of 43, k = 10; visit bytes are cleared before each search, outside the time.
-#[path = "../cases.rs"]
-#[allow(dead_code)]
-mod cases;
-#[path = "../model.rs"]
-#[allow(dead_code)]
-mod model;
-#[path = "../ours.rs"]
-#[allow(dead_code)]
-mod ours;
 
-use cases::Random;
+use compare::cases::Random;
+use compare::{model, ours};
 use std::time::Instant;
 
 const DIMENSION: u64 = 30_000;

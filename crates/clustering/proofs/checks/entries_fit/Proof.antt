@@ -1,11 +1,8 @@
 -- `clustering::checks::entries_fit` meets its contract. Assumes nothing.
 use lib.Dec.{leb}
 use Rattle.centroid_index.specs.Index.{entriesFrom, entries}
-use mathlib.Core.Bool.{Bool, true, false, _&&_}
-use Rattle.lists.specs.Lists.{every}
-use Rattle.documents.specs.Checks.{termsHoldBelow}
-use Rattle.documents.specs.Documents.{documents, terms}
-use Rattle.clustering.specs.Fits.{slices-are, terms-count, every-step, every-end, fit-step, fit-not, fit-end}
+use Rattle.documents.specs.Documents.{documents}
+use Rattle.clustering.specs.Fits.{terms-count, fit-step, fit-not, fit-end}
 use mathlib.Core.Path.{_≡_, refl, sym, ap, _∙_}
 use mathlib.Core.List.{List, [], _∷_, _++_, map, foldl, zipWith}
 use mathlib.Core.Logic.{⊎-elim}

@@ -3,7 +3,7 @@ use Rattle.lists.specs.Lists.{among}
 use mathlib.Core.Bool.{Bool, true, false, cond}
 use Rattle.assignment.specs.Scored.{scoresOf}
 use Rattle.assignment.specs.Nearest.{firstAbove}
-use Rattle.clustering.specs.Ranks.{rankOf}
+use Rattle.clusters.specs.Ranks.{rankOf}
 use Rattle.documents.specs.Documents.{documents, terms}
 use Rattle.clustering.specs.Passes.{over, Over, over-start, over-read, over-step, over-end, firstChoice, tookItself, secondRank}
 use mathlib.Core.Path.{_≡_, refl, sym, ap, _∙_}

@@ -1,0 +1,31 @@
+-- Assumes nothing.
+use mathlib.Core.Path.{sym}
+use lib.Seq.{set-out}
+use borrow.Author.Needs.{needs}
+use Rattle.block_counts.proofs.put.Statement.{statement}
+use Rattle.block_counts.proofs.put.Tie as tie
+
+mul-xs : tie.Need-mul-xs
+mul-xs c = search needs
+
+slice-write-xs : tie.Need-slice-write-xs
+slice-write-xs c = search needs
+
+same-length : tie.Need-same-length
+same-length c = search needs
+
+returns : tie.Need-returns
+returns c = search needs
+
+returns-2 : tie.Need-returns-2
+returns-2 c = let a = c .before .args in sym (set-out (a .xs .now) (a .i) (a .x) (c .if1 .left))
+
+pub put-spec : {M : Type 1} → statement M
+put-spec =
+    tie.close
+    (tie.spec
+    mul-xs
+    slice-write-xs
+    same-length
+    returns
+    returns-2)

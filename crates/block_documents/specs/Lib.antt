@@ -1,0 +1,4 @@
+pub mod Blocks
+pub mod Cuts
+pub mod Kept
+pub mod Steps

@@ -1,0 +1,3 @@
+pub mod Laws
+pub mod Grouping
+pub mod Making

@@ -1,0 +1,238 @@
+-- The whole of making: what the verdict says of the parts, and what they leave together. Assumes nothing.
+use Prim.Native.Nat.{ℕ, suc, _+_, _*_, _/_, _≤_, _<_}
+use native.Mathlib.Omega.{arith}
+use native.Mathlib.Nat.{div-le-self}
+use mathlib.Core.Path.{_≡_, refl, sym, ap, _∙_, subst}
+use mathlib.Core.Bool.{Bool, true, false, not, _&&_, _||_}
+use mathlib.Core.List.{List, [], _∷_, _++_, map}
+use lib.ListN.{length, replicate, length-append, length-map, length-replicate}
+use lib.IntN.{pos}
+use lib.Dec.{leb, ltb, eqb}
+use lib.Ieee.{Float, fin}
+use borrow.Author.Tests.{leb-true, leb-false, le-leb, lt-leb, lt-ltb, ne-eqb, not-false}
+use Rattle.refusal.specs.declared.Refusal.{Refusal}
+use Rattle.refusal.specs.declared.Refusal.the-variants.{BufferTooShort}
+use Rattle.refusal.specs.declared.Verdict.{Verdict}
+use Rattle.refusal.specs.declared.Verdict.the-variants as verdict
+use Rattle.refusal.specs.First.{Test, _gives_, firstOf, Faultless, faultless, accepted-by}
+use Rattle.configuration.specs.declared.BlockingStrategy.{BlockingStrategy}
+use Rattle.configuration.specs.declared.BlockingStrategy.the-variants.{FixedSize, RandomKmeans}
+use Rattle.configuration.specs.declared.ClusteringAlgorithm.{ClusteringAlgorithm}
+use Rattle.configuration.specs.declared.SummarizationStrategy.the-variants as summarization
+use Rattle.lists.specs.Lists.{every, joined}
+use Rattle.documents.specs.Documents.{Documents, terms}
+use Rattle.documents.specs.Checks.{termsHoldBelow, documentsHold}
+use Rattle.documents.specs.Laws.{both}
+use Rattle.centroid_index.specs.Index.{entry, entriesFrom, entries}
+use Rattle.blocking.specs.Blocking.{blockingTests, fixedOffsets}
+use Rattle.admission.specs.Admission.{centroidsUsed, blockingFaults, inputTests}
+use Rattle.clusters.specs.Clusters.{assignedBy, clusters}
+use Rattle.clustering.specs.declared.Rooms.{Rooms}
+use Rattle.clustering.specs.Answers.{roomy, clusterTests, roomsOf}
+use Rattle.building.specs.Built.{input, inClusters, blockedBy}
+use Rattle.building.specs.Needs.{Scratch, sizes, sizesFor, scratchNeeds, scratchSuffices}
+use Rattle.building.specs.Building.{Scratches, scratches, scratchLengths, laid, zeros, floatZeros, clearedScratch}
+use Rattle.building.specs.Offsets.{right-count}
+use Rattle.scratch.specs.Lengths.{capped, shown, lengthsOf}
+use Rattle.list_blocks.specs.declared.ListBlocks.{ListBlocks}
+use Rattle.list_blocks.specs.declared.ListBlocks.the-variants.{Offsets, Refused}
+use Rattle.list_blocks.specs.Made.{makeTests, left, leftBy, holding, lentOf, CutFits, GroupFits}
+
+-- ---- no slice is as long as the greatest u64
+pub record Short (s : Scratches) : Type 0 where
+  pub order : length (s .order) < 18446744073709551615
+  pub blocks : length (s .blocks) < 18446744073709551615
+  pub sorted : length (s .sorted) < 18446744073709551615
+  pub known : length (s .known) < 18446744073709551615
+  pub taken : length (s .taken) < 18446744073709551615
+  pub counts : length (s .counts) < 18446744073709551615
+  pub starts : length (s .starts) < 18446744073709551615
+  pub slots : length (s .slots) < 18446744073709551615
+  pub weights : length (s .weights) < 18446744073709551615
+  pub scores : length (s .scores) < 18446744073709551615
+  pub keys : length (s .keys) < 18446744073709551615
+
+pub under-8 : (n : ℕ) → n * 8 < 9223372036854775808 → n < 18446744073709551615
+under-8 n h = omega arith
+
+pub under-4 : (n : ℕ) → n * 4 < 9223372036854775808 → n < 18446744073709551615
+under-4 n h = omega arith
+
+cap : (a b : ℕ) → b < 18446744073709551615 → leb (capped a) b ≡ leb a b
+cap a b h = go (leb a b) refl
+  where
+    go : (t : Bool) → leb a b ≡ t → leb (capped a) b ≡ t
+    go true e = le-leb (capped a) b (let k = leb-true a b e in omega arith)
+    go false e = lt-leb (capped a) b (let k = leb-false a b e in omega arith)
+
+capped-suffices : (x : Scratch) (s : Scratches) → Short s → scratchSuffices (lengthsOf (shown x)) (scratchLengths s) ≡ scratchSuffices x (scratchLengths s)
+unfolding shown scratchLengths
+capped-suffices x s h =
+    λ j. cap (x .order) (length (s .order)) (h .order) j && (cap (x .blocks) (length (s .blocks)) (h .blocks) j && (cap (x .sorted) (length (s .sorted)) (h .sorted) j && (cap (x .known) (length (s .known)) (h .known) j && (cap (x .taken) (length (s .taken)) (h .taken) j && (cap (x .counts) (length (s .counts)) (h .counts) j && (cap (x .starts) (length (s .starts)) (h .starts) j && (cap (x .slots) (length (s .slots)) (h .slots) j && (cap (x .weights) (length (s .weights)) (h .weights) j && (cap (x .scores) (length (s .scores)) (h .scores) j && cap (x .keys) (length (s .keys)) (h .keys) j)))))))))
+
+-- ---- each buffer is as long as it must be
+pub record Fits (x l : Scratch) : Type 0 where
+  pub order : x .order ≤ l .order
+  pub blocks : x .blocks ≤ l .blocks
+  pub sorted : x .sorted ≤ l .sorted
+  pub known : x .known ≤ l .known
+  pub taken : x .taken ≤ l .taken
+  pub counts : x .counts ≤ l .counts
+  pub starts : x .starts ≤ l .starts
+  pub slots : x .slots ≤ l .slots
+  pub weights : x .weights ≤ l .weights
+  pub scores : x .scores ≤ l .scores
+  pub keys : x .keys ≤ l .keys
+
+fits-of : (x l : Scratch) → scratchSuffices x l ≡ true → Fits x l
+fits-of x l h =
+    let f0 = both (leb (x .order) (l .order)) _ h in
+    let f1 = both (leb (x .blocks) (l .blocks)) _ (f0 .1) in
+    let f2 = both (leb (x .sorted) (l .sorted)) _ (f1 .1) in
+    let f3 = both (leb (x .known) (l .known)) _ (f2 .1) in
+    let f4 = both (leb (x .taken) (l .taken)) _ (f3 .1) in
+    let f5 = both (leb (x .counts) (l .counts)) _ (f4 .1) in
+    let f6 = both (leb (x .starts) (l .starts)) _ (f5 .1) in
+    let f7 = both (leb (x .slots) (l .slots)) _ (f6 .1) in
+    let f8 = both (leb (x .weights) (l .weights)) _ (f7 .1) in
+    let f9 = both (leb (x .scores) (l .scores)) _ (f8 .1) in
+    record { order = leb-true (x .order) (l .order) (f0 .0); blocks = leb-true (x .blocks) (l .blocks) (f1 .0); sorted = leb-true (x .sorted) (l .sorted) (f2 .0); known = leb-true (x .known) (l .known) (f3 .0); taken = leb-true (x .taken) (l .taken) (f4 .0); counts = leb-true (x .counts) (l .counts) (f5 .0); starts = leb-true (x .starts) (l .starts) (f6 .0); slots = leb-true (x .slots) (l .slots) (f7 .0); weights = leb-true (x .weights) (l .weights) (f8 .0); scores = leb-true (x .scores) (l .scores) (f9 .0); keys = leb-true (x .keys) (l .keys) (f9 .1) }
+
+-- ---- scratch that is zero stays as long as it is
+zeros-twice : (l : List ℕ) → zeros (zeros l) ≡ zeros l
+zeros-twice l = ap (λ n. replicate n 0) (length-replicate {A = ℕ} (length l) 0)
+
+float-zeros-twice : (l : List Float) → floatZeros (floatZeros l) ≡ floatZeros l
+float-zeros-twice l = ap (λ n. replicate n (fin false 0 (pos 0))) (length-replicate (length l) (fin false 0 (pos 0)))
+
+cleared-twice : (s : Scratches) → clearedScratch (clearedScratch s) ≡ clearedScratch s
+unfolding clearedScratch
+cleared-twice s = λ j. scratches (zeros-twice (s .order) j) (zeros-twice (s .blocks) j) (zeros-twice (s .sorted) j) (zeros-twice (s .known) j) (zeros-twice (s .taken) j) (zeros-twice (s .counts) j) (zeros-twice (s .starts) j) (zeros-twice (s .slots) j) (float-zeros-twice (s .weights) j) (float-zeros-twice (s .scores) j) (zeros-twice (s .keys) j)
+
+cleared-lengths : (s : Scratches) → scratchLengths (clearedScratch s) ≡ scratchLengths s
+unfolding clearedScratch scratchLengths
+cleared-lengths s = λ j. record { order = length-replicate {A = ℕ} (length (s .order)) 0 j; blocks = length-replicate {A = ℕ} (length (s .blocks)) 0 j; sorted = length-replicate {A = ℕ} (length (s .sorted)) 0 j; known = length-replicate {A = ℕ} (length (s .known)) 0 j; taken = length-replicate {A = ℕ} (length (s .taken)) 0 j; counts = length-replicate {A = ℕ} (length (s .counts)) 0 j; starts = length-replicate {A = ℕ} (length (s .starts)) 0 j; slots = length-replicate {A = ℕ} (length (s .slots)) 0 j; weights = length-replicate (length (s .weights)) (fin false 0 (pos 0)) j; scores = length-replicate (length (s .scores)) (fin false 0 (pos 0)) j; keys = length-replicate {A = ℕ} (length (s .keys)) 0 j }
+
+-- ---- the parts of the tests
+or-left : (a b : Bool) → (a || b) ≡ false → a ≡ false
+or-left true b h = h
+or-left false b h = refl
+
+every-both : {A : Type 0} (p : A → Bool) (a b : List A) → every p (a ++ b) ≡ (every p a && every p b)
+every-both p [] b = refl
+every-both p (x ∷ a) b = ap (λ z. p x && z) (every-both p a b) ∙ assoc (p x) (every p a) (every p b)
+  where
+    assoc : (x y z : Bool) → (x && (y && z)) ≡ ((x && y) && z)
+    assoc true y z = refl
+    assoc false y z = refl
+
+entry-count : (d : Documents) (i : ℕ) (cs : List ℕ) → length (entriesFrom d i cs) ≡ length (joined (map (terms d) cs))
+entry-count d i [] = refl
+entry-count d i (c ∷ cs) =
+    length-append (map (entry i) (terms d c)) (entriesFrom d (suc i) cs) ∙ (let a = length-map (terms d c) (entry i) in let b = entry-count d (suc i) cs in let e = length-append (terms d c) (joined (map (terms d) cs)) in omega arith)
+
+roomy-by : (n m dimension e : ℕ) (r : Rooms) → n ≤ r .order → m ≤ r .order → n ≤ r .sorted → n ≤ r .taken → m < r .blocks → m ≤ r .known → m ≤ r .counts → m ≤ r .scores → dimension < r .starts → dimension ≤ r .keys → e ≤ r .slots → e ≤ r .weights
+    → roomy n m dimension e r ≡ true
+roomy-by n m dimension e r a b c d f g h i j k l o =
+    rw (le-leb n (r .order) a, le-leb m (r .order) b, le-leb n (r .sorted) c, le-leb n (r .taken) d, lt-ltb m (r .blocks) f, le-leb m (r .known) g, le-leb m (r .counts) h, le-leb m (r .scores) i, lt-ltb dimension (r .starts) j, le-leb dimension (r .keys) k, le-leb e (r .slots) l, le-leb e (r .weights) o)
+
+-- ---- the verdict over the lent buffers
+module _ (dimension : ℕ) (k : BlockingStrategy) (d : Documents) (ids centroids : List ℕ) (s : Scratches) (short : Short s) (v : Verdict)
+    (e : v ≡ firstOf (inputTests dimension k d ids centroids ++ ((not (scratchSuffices (lengthsOf (shown (scratchNeeds (sizesFor dimension k d ids centroids)))) (scratchLengths s)) gives BufferTooShort) ∷ []))) where
+  judged : v ≡ firstOf (makeTests dimension k d ids centroids s)
+  judged = e ∙ ap (λ b. firstOf (inputTests dimension k d ids centroids ++ ((not b gives BufferTooShort) ∷ []))) (capped-suffices (scratchNeeds (sizesFor dimension k d ids centroids)) s short)
+
+  pub refused-made : (z : Scratches) (r : Refusal) → v ≡ verdict.Refused r → z ≡ clearedScratch s → left (Refused r) z ≡ leftBy (firstOf (makeTests dimension k d ids centroids s)) (blockedBy k d centroids ids) s
+  refused-made z r h c = ap (left (Refused r)) c ∙ ap (λ w. leftBy w (blockedBy k d centroids ids) s) (sym h ∙ judged)
+
+  module _ (h : v ≡ verdict.Accepted) where
+    apart : (a b : List Test) → Faultless (a ++ b) → Faultless a × Faultless b
+    apart [] b f = (tt, f)
+    apart (t ∷ a) b f = let r = apart a b (f .1) in ((f .0, r .0), r .1)
+
+    faults : Faultless (inputTests dimension k d ids centroids) × Faultless ((not (scratchSuffices (scratchNeeds (sizesFor dimension k d ids centroids)) (scratchLengths s)) gives BufferTooShort) ∷ [])
+    faults = apart (inputTests dimension k d ids centroids) _ (faultless (makeTests dimension k d ids centroids s) (sym judged ∙ h))
+
+    room : scratchSuffices (scratchNeeds (sizesFor dimension k d ids centroids)) (scratchLengths s) ≡ true
+    room = not-false _ (faults .1 .0)
+
+    roomFor : Fits (scratchNeeds (sizesFor dimension k d ids centroids)) (scratchLengths s)
+    roomFor = fits-of (scratchNeeds (sizesFor dimension k d ids centroids)) (scratchLengths s) room
+
+    accepted-as : (r : ListBlocks) (z : Scratches) → left r z ≡ leftBy verdict.Accepted (blockedBy k d centroids ids) s → left r z ≡ leftBy (firstOf (makeTests dimension k d ids centroids s)) (blockedBy k d centroids ids) s
+    accepted-as r z w = w ∙ ap (λ w. leftBy w (blockedBy k d centroids ids) s) (sym h ∙ judged)
+
+    module _ (z : Scratches) (c : z ≡ clearedScratch s) where
+      as-long : scratchLengths z ≡ scratchLengths s
+      as-long = ap scratchLengths c ∙ cleared-lengths s
+
+      -- fixed blocking
+      module _ (size : ℕ) (q : k ≡ FixedSize size) where
+        pub cut-fits : CutFits size (length ids) (length (z .order)) (length (z .blocks))
+        unfolding inputTests scratchLengths
+        cut-fits =
+            let b = subst (λ k. Faultless (blockingFaults k (length ids) (length centroids))) q (faults .0 .1 .1 .1 .1 .1) in
+            let o : length (z .order) ≡ length (s .order) = ap (λ l. l .order) as-long in
+            let w : length (z .blocks) ≡ length (s .blocks) = ap (λ l. l .blocks) as-long in
+            let i = div-le-self (length ids) size in
+            record {
+              accepted = accepted-by (blockingTests (length ids) size (length (z .blocks))) (or-left _ _ (faults .0 .0), (b .0, (b .1 .0, (lt-leb (length (z .blocks)) (length ids / size) (omega (arith, roomFor .blocks)), tt))));
+              listed = omega (arith, roomFor .order);
+            }
+
+        pub cut-made : (count : ℕ) (order blocks : List ℕ) → count ≡ length (fixedOffsets (length ids) size) → order ≡ laid ids (z .order) → blocks ≡ laid (fixedOffsets (length ids) size) (z .blocks)
+            → left (Offsets count) (scratches order blocks (z .sorted) (z .known) (z .taken) (z .counts) (z .starts) (z .slots) (z .weights) (z .scores) (z .keys)) ≡ leftBy (firstOf (makeTests dimension k d ids centroids s)) (blockedBy k d centroids ids) s
+        cut-made count order blocks e o b =
+            accepted-as (Offsets count) (scratches order blocks (z .sorted) (z .known) (z .taken) (z .counts) (z .starts) (z .slots) (z .weights) (z .scores) (z .keys))
+            ((λ j. left (Offsets (e j)) (scratches ((o ∙ ap (λ z. laid ids (z .order)) c) j) ((b ∙ ap (λ z. laid (fixedOffsets (length ids) size) (z .blocks)) c) j) (c j .sorted) (c j .known) (c j .taken) (c j .counts) (c j .starts) (c j .slots) (c j .weights) (c j .scores) (c j .keys)))
+            ∙ ap (λ k. leftBy verdict.Accepted (blockedBy k d centroids ids) s) (sym q))
+
+      -- clusters
+      module _ (fraction : Float) (minimum : ℕ) (algorithm : ClusteringAlgorithm) (q : k ≡ RandomKmeans fraction minimum algorithm) where
+        used : centroidsUsed k centroids ≡ centroids
+        used = ap (λ k. centroidsUsed k centroids) q
+
+        pub group-fits : GroupFits z dimension d ids centroids
+        unfolding inputTests documentsHold scratchLengths
+        group-fits = record { zero = c ∙ sym (ap clearedScratch c ∙ cleared-twice s); accepted = λ some. accepted-by (clusterTests dimension d ids centroids (roomsOf (lentOf z))) (terms-hold, (centroid-there some, (ap not (has-room some), tt))) }
+          where
+            terms-hold : not (documentsHold dimension d ids && documentsHold dimension d centroids) ≡ false
+            terms-hold = ap not (sym (every-both (λ i. termsHoldBelow dimension (terms d i)) ids centroids) ∙ ap (λ l. every (λ i. termsHoldBelow dimension (terms d i)) (ids ++ l)) (sym used) ∙ not-false _ (faults .0 .1 .1 .0))
+
+            right : (length ids ≡ 0 → ⊥) → (0 < length centroids) × (length centroids ≤ 65535) × (length centroids ≤ length ids)
+            right some = right-count (input dimension k (summarization.FixedSize 0) d ids centroids) fraction (length ids) (length centroids) (subst (λ k. Faultless (blockingFaults k (length ids) (length centroids))) q (faults .0 .1 .1 .1 .1 .1) .0) some
+
+            centroid-there : (length ids ≡ 0 → ⊥) → (ltb 0 (length ids) && eqb (length centroids) 0) ≡ false
+            centroid-there some = let r = right some in ap (λ b. ltb 0 (length ids) && b) (ne-eqb (length centroids) 0 (λ e. omega (arith, r .0))) ∙ none (ltb 0 (length ids))
+              where
+                none : (b : Bool) → (b && false) ≡ false
+                none true = refl
+                none false = refl
+
+            has-room : (length ids ≡ 0 → ⊥) → roomy (length ids) (length centroids) dimension (length (entries d centroids)) (roomsOf (lentOf z)) ≡ true
+            has-room some =
+                let r = right some in
+                let f = subst (λ u. Fits (scratchNeeds (sizes (length ids) (length u) (length (joined (map (terms d) u))) dimension)) (scratchLengths s)) used roomFor in
+                let t = entry-count d 0 centroids in
+                let lorder : length (z .order) ≡ length (s .order) = ap (λ l. l .order) as-long in
+                let lblocks : length (z .blocks) ≡ length (s .blocks) = ap (λ l. l .blocks) as-long in
+                let lsorted : length (z .sorted) ≡ length (s .sorted) = ap (λ l. l .sorted) as-long in
+                let lknown : length (z .known) ≡ length (s .known) = ap (λ l. l .known) as-long in
+                let ltaken : length (z .taken) ≡ length (s .taken) = ap (λ l. l .taken) as-long in
+                let lcounts : length (z .counts) ≡ length (s .counts) = ap (λ l. l .counts) as-long in
+                let lstarts : length (z .starts) ≡ length (s .starts) = ap (λ l. l .starts) as-long in
+                let lslots : length (z .slots) ≡ length (s .slots) = ap (λ l. l .slots) as-long in
+                let lweights : length (z .weights) ≡ length (s .weights) = ap (λ l. l .weights) as-long in
+                let lscores : length (z .scores) ≡ length (s .scores) = ap (λ l. l .scores) as-long in
+                let lkeys : length (z .keys) ≡ length (s .keys) = ap (λ l. l .keys) as-long in
+                roomy-by (length ids) (length centroids) dimension (length (entries d centroids)) (roomsOf (lentOf z))
+                (omega (arith, f .order)) (omega (arith, f .order, r .2)) (omega (arith, f .sorted)) (omega (arith, f .taken)) (omega (arith, f .blocks, r .2)) (omega (arith, f .known)) (omega (arith, f .counts)) (omega (arith, f .scores)) (omega (arith, f .starts)) (omega (arith, f .keys)) (omega (arith, f .slots)) (omega (arith, f .weights))
+
+        pub group-made : (r : ListBlocks) (after : Scratches) → left r after ≡ leftBy verdict.Accepted (inClusters (clusters (assignedBy algorithm d minimum centroids ids))) z → left r after ≡ leftBy (firstOf (makeTests dimension k d ids centroids s)) (blockedBy k d centroids ids) s
+        group-made r after w =
+            accepted-as r after
+            (w ∙ ap (λ z. left (Offsets (length ((inClusters (clusters (assignedBy algorithm d minimum centroids ids))) .offsets))) (inFront z)) (ap clearedScratch c ∙ cleared-twice s)
+            ∙ ap (λ k. leftBy verdict.Accepted (blockedBy k d centroids ids) s) (sym q))
+          where
+            inFront : Scratches → Scratches
+            inFront z = let b = inClusters (clusters (assignedBy algorithm d minimum centroids ids)) in scratches (laid (b .documents) (z .order)) (laid (b .offsets) (z .blocks)) (z .sorted) (z .known) (z .taken) (z .counts) (z .starts) (z .slots) (z .weights) (z .scores) (z .keys)

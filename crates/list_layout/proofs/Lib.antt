@@ -1,0 +1,5 @@
+pub mod Laws
+pub mod Measured
+pub mod Placed
+pub mod Wrote
+pub mod Filled

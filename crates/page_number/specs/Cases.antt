@@ -1,0 +1,35 @@
+-- Worked cases of the page number. Assumes nothing.
+use Prim.Native.Nat.{ℕ}
+use mathlib.Core.Path.{_≡_, refl}
+use mathlib.Core.Logic.{_⊎_, inl, inr}
+use mathlib.Core.List.{List, [], _∷_}
+use Rattle.refusal.specs.Refusals.{numberOf}
+use Rattle.page_number.specs.declared.PageNumber.{PageNumber}
+use Rattle.page_number.specs.declared.PageNumber.the-variants.{Document, Refused}
+use Rattle.documents.specs.Documents.{startingAt}
+use Rattle.documents.specs.Checks.{offsetsHoldFree}
+use Rattle.page_number.specs.Answers.{pageNumber}
+
+-- an answer in this paper's numbers: a refusal's on the left, a document's on the right
+abbrev pub inNumbers : PageNumber → ℕ ⊎ ℕ
+inNumbers (Document i) = inr (i .0)
+inNumbers (Refused r) = inl (numberOf r)
+
+abbrev pub Gives : List ℕ → ℕ → ℕ ⊎ ℕ → Type 0
+Gives offsets s answer = inNumbers (pageNumber offsets s) ≡ answer
+
+-- documents 0 and 1 are blank and share the start of document 2
+pub record PageCases : Type 0 where
+  pub smallest : Gives (0 ∷ 0 ∷ 0 ∷ 5 ∷ 9 ∷ []) 0 (inr 0)
+  pub last-document : Gives (0 ∷ 0 ∷ 0 ∷ 5 ∷ 9 ∷ []) 5 (inr 3)
+  pub between : Gives (0 ∷ 0 ∷ 0 ∷ 5 ∷ 9 ∷ []) 3 (inl 15)
+  pub last-offset-is-no-start : Gives (0 ∷ 0 ∷ 0 ∷ 5 ∷ 9 ∷ []) 9 (inl 15)
+  pub no-documents : Gives (0 ∷ []) 0 (inl 15)
+  pub no-offsets : Gives [] 0 (inl 6)
+  pub first-not-zero : Gives (1 ∷ 5 ∷ []) 1 (inl 6)
+  pub last-falls : Gives (0 ∷ 5 ∷ 4 ∷ []) 0 (inl 6)
+  pub six-before-fifteen : Gives (0 ∷ 5 ∷ 4 ∷ []) 7 (inl 6)
+
+pub page-cases : PageCases
+unfolding pageNumber offsetsHoldFree startingAt
+page-cases = record { smallest = refl; last-document = refl; between = refl; last-offset-is-no-start = refl; no-documents = refl; no-offsets = refl; first-not-zero = refl; last-falls = refl; six-before-fifteen = refl }

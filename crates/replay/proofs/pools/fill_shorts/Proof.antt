@@ -1,0 +1,61 @@
+-- `replay::pools::fill_shorts` is safe and ends: the buffer keeps its length. Assumes nothing.
+use mathlib.Core.Path.{_≡_, refl}
+use Prim.Native.Nat.{_-_}
+use native.Mathlib.Omega.{arith}
+use lib.ListN.{length}
+use borrow.Author.Needs.{needs}
+use Rattle.replay.proofs.pools.fill_shorts.Statement.{statement}
+use Rattle.replay.proofs.pools.fill_shorts.Tie as tie
+
+abbrev Inv-loop : tie.InvT-loop
+Inv-loop words from count shorts₀ i₀ shorts i = length shorts ≡ length shorts₀
+
+abbrev μ-loop : tie.MeasureT-loop
+μ-loop words from count shorts₀ i₀ shorts i = length shorts₀ - i
+
+loop-holds : tie.Need-loop-holds Inv-loop μ-loop
+loop-holds c = refl
+
+word-requires : tie.Need-word-requires Inv-loop μ-loop
+word-requires c κs = search needs
+
+cast-shorts : tie.Need-cast-shorts Inv-loop μ-loop
+cast-shorts c = search needs
+
+mul-shorts : tie.Need-mul-shorts Inv-loop μ-loop
+mul-shorts c = search needs
+
+slice-write-shorts : tie.Need-slice-write-shorts Inv-loop μ-loop
+slice-write-shorts c = search needs
+
+add-i : tie.Need-add-i Inv-loop μ-loop
+add-i c = search needs
+
+loop-less : tie.Need-loop-less Inv-loop μ-loop
+loop-less c = search needs
+
+loop-again : tie.Need-loop-again Inv-loop μ-loop
+loop-again c = search needs
+
+same-length : tie.Need-same-length Inv-loop μ-loop
+same-length c = search needs
+
+returns : tie.Need-returns Inv-loop μ-loop
+returns c = tt
+
+pub fill-shorts-spec : {M : Type 1} → statement M
+fill-shorts-spec =
+    tie.close
+    (tie.spec
+    Inv-loop
+    μ-loop
+    loop-holds
+    word-requires
+    cast-shorts
+    mul-shorts
+    slice-write-shorts
+    add-i
+    loop-less
+    loop-again
+    same-length
+    returns)

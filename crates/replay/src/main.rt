@@ -1,0 +1,72 @@
+// Replays a sample of the original's answers against the proved functions. The sample is the file `cases`; docs/DIFFERENCES.md says how
+// it was made. A case is a row of words; the first one says of what kind it is.
+mod leaves;
+mod pools;
+mod record;
+mod searching;
+
+// Whether the proved function's answer is the recorded one.
+fn agrees(kind: u32, words: &[u32]) -> bool {
+    match kind {
+        1 => leaves::packs(words),
+        2 => leaves::blocks(words),
+        3 => leaves::quantizes(words),
+        4 => leaves::pushes(words),
+        5 => searching::searches(words),
+        _ => false,
+    }
+}
+
+// Replays one case; false where there is none left.
+fn replay_one(fd: i32, cases: &mut [u64; 8], wrong: &mut u64) -> bool {
+    let mut words = [0u32; 1024];
+    let count = record::next(fd, &mut words);
+    if count == 0 {
+        return false;
+    }
+    let kind = words[0];
+    let at = (kind % 8) as usize;
+    cases[at] = std::num::wrapping_add_u64(cases[at], 1);
+    if !agrees(kind, &words) {
+        *wrong = std::num::wrapping_add_u64(*wrong, 1);
+    }
+    true
+}
+
+// Writes how many cases of a kind there were.
+fn say(name: &[u8], count: u64) {
+    io::print_decimal(1, count);
+    io::write_all(1, name);
+}
+
+// Writes what was replayed, kind by kind, and how many answers differ.
+fn report(cases: &[u64; 8], wrong: u64) {
+    say(b" ranges packed\n", cases[1]);
+    say(b" lists cut into blocks\n", cases[2]);
+    say(b" summaries quantized\n", cases[3]);
+    say(b" entries pushed\n", cases[4]);
+    say(b" lists searched\n", cases[5]);
+    say(b" answers differ from the original's\n", wrong);
+}
+
+// Replays every case of the file.
+fn replay_all(fd: i32) {
+    let mut cases = [0u64; 8];
+    let mut wrong = 0u64;
+    // a proved loop has to end, and nothing says that a file does: no run uses these turns up
+    let mut turns = u64::MAX;
+    while turns > 0 && replay_one(fd, &mut cases, &mut wrong) {
+        turns -= 1;
+    }
+    report(&cases, wrong);
+}
+
+fn main() {
+    let fd = os::open_read(b"cases");
+    if fd < 0 {
+        os::fail(b"cases");
+        return;
+    }
+    replay_all(fd);
+    libc::close(fd);
+}

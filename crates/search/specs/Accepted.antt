@@ -1,0 +1,41 @@
+-- What the tests of an accepted search say of the kept list and of the ranges that can be scored. Assumes nothing.
+use Prim.Native.Nat.{ℕ, _+_, _-_, _≤_}
+use mathlib.Core.Path.{_≡_, refl}
+use mathlib.Core.Bool.{Bool, true, false, _&&_, cond}
+use lib.ListN.{length}
+use lib.Ieee.{Float}
+use lib.Dec.{leb}
+use borrow.Author.Tests.{leb-true}
+use native.Mathlib.Omega.{arith}
+use Rattle.lists.specs.Lists.{every, part}
+use Rattle.packing.specs.Packing.{startOf, lengthOf}
+use Rattle.page.specs.Reading.{reading}
+use Rattle.kept_list.specs.Entry.{better}
+use Rattle.kept_list.specs.Keep.{inOrder}
+use Rattle.kept_list.specs.Lent.{Lent, entries, places}
+use Rattle.kept_list.specs.Laid.{length-beside}
+use Rattle.kept_list.specs.Order.{both}
+use Rattle.kept_list.specs.Push.{isNumber, sound, wellKept}
+use Rattle.probing.specs.declared.RangeReading.the-variants.{ReachesPast, Score}
+use Rattle.probing.specs.Ranges.{ofPage, rangeReading}
+use Rattle.probing.specs.Probed.{Terms, readIn}
+
+pub kept-sound : (k : ℕ) (m : Lent) → wellKept k m ≡ true → (inOrder better (entries m) ≡ true) × (length (entries m) ≤ k)
+unfolding wellKept
+kept-sound k m w =
+    let a = both (leb (m .size) k && places (m .size) m) (sound (entries m)) w in
+    let b = both (leb (m .size) k) (places (m .size) m) (a .0) in
+    let p = both (leb (m .size) (length (m .packed))) (leb (m .size) (length (m .scores))) (b .1) in
+    let n = length-beside (m .size) (m .packed) (m .scores) (leb-true (m .size) (length (m .packed)) (p .0)) (leb-true (m .size) (length (m .scores)) (p .1)) in
+    let l = leb-true (m .size) k (b .0) in
+    (both (inOrder better (entries m)) (every isNumber (entries m)) (a .1) .0, omega arith)
+
+-- a range that has a score ends within the terms
+pub score-ends : (t : Terms) (p : ℕ) (x : Float) → readIn t p ≡ Score x → startOf p ≤ length (t .components)
+unfolding rangeReading
+score-ends t p x h = at (leb (startOf p + lengthOf p) (length (t .components))) refl h
+  where
+    at : (b : Bool) → leb (startOf p + lengthOf p) (length (t .components)) ≡ b
+        → cond b (ofPage (reading (t .queryComponents) (t .queryValues) (part (startOf p) (startOf p + lengthOf p - startOf p) (t .components)) (part (startOf p) (startOf p + lengthOf p - startOf p) (t .values)))) ReachesPast ≡ Score x → startOf p ≤ length (t .components)
+    at true e h = let z = leb-true (startOf p + lengthOf p) (length (t .components)) e in omega arith
+    at false e h = let z : _≡_ {A = ℕ} 0 1 = cc in omega arith
