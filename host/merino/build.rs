@@ -11,17 +11,12 @@ fn main() {
     };
     let library = folder.join("libmerino.a");
     println!("cargo:rerun-if-changed={}", library.display());
-    let Ok(bytes) = std::fs::read(&library) else {
+    if !library.exists() {
         eprintln!("\nThe proved library is not there: {}", library.display());
         eprintln!("Make it with `rt staticlib merino` in the repository's folder, which proves what it needs first (minutes, if nothing");
         eprintln!("is proved yet), or let MERINO_LIB name the folder that has libmerino.a.\n");
         std::process::exit(1);
-    };
+    }
     println!("cargo:rustc-link-search=native={}", folder.display());
     println!("cargo:rustc-link-lib=static=merino");
-    // until the library has it, building is left out
-    if bytes.windows(12).any(|w| w == b"merino_build") || std::env::var("MERINO_BUILDS").is_ok() {
-        println!("cargo:rustc-cfg=builds");
-        println!("cargo:builds=1");
-    }
 }

@@ -15,13 +15,9 @@ use slips::Slip;
 /// One case: None where it does not count, else whether all agree.
 pub type Case = fn(&mut Random, Slip) -> Option<bool>;
 
-/// The kinds of cases, by name. Those that need the original are there where its source is; those that need a built list through the
-/// library are there where it has one.
+/// The kinds of cases, by name. Those that need the original are there where its source is.
 pub fn kinds() -> Vec<(&'static str, Case)> {
-    let mut all: Vec<(&'static str, Case)> = vec![("any_push", any::case_any_push), ("any_search", any::case_any_search)];
-    if merino::raw::BUILDS {
-        all.push(("any_build", any::case_any_build));
-    }
+    let mut all: Vec<(&'static str, Case)> = vec![("any_push", any::case_any_push), ("any_search", any::case_any_search), ("any_build", any::case_any_build)];
     #[cfg(source)]
     all.extend([
         ("pack", against::case_pack as Case),

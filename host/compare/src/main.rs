@@ -8,24 +8,6 @@ fn named(name: &str) -> Vec<(&'static str, Case)> {
     kinds().into_iter().filter(|k| k.0 == name || (name == "all" && k.0 != "large")).collect()
 }
 
-/// Whether a slip can be noticed only by a build through the library, which has none yet.
-fn waits(slip: Slip) -> bool {
-    use Slip::*;
-    !merino::raw::BUILDS
-        && matches!(
-            slip,
-            TermsBeforeDocuments
-                | AllDocumentsLookedAt
-                | UnusedCentroidsLookedAt
-                | CentroidsOfEmptyList
-                | EmptySummaryBeforeScratch
-                | OutputBeforeEmptySummary
-                | RefusedLeavesOutput
-                | AcceptedLeavesScratch
-                | AcceptedClearsRest
-        )
-}
-
 /// Whether each slip is noticed by some kind.
 fn slips(cases: u64, seed: u64) -> bool {
     if !original::PRESENT {
@@ -33,8 +15,7 @@ fn slips(cases: u64, seed: u64) -> bool {
         return true;
     }
     let mut missed = 0;
-    let tried: Vec<Slip> = SLIPS.iter().copied().filter(|s| !waits(*s)).collect();
-    for slip in &tried {
+    for slip in SLIPS {
         let noticed = named("all").into_iter().find_map(|(name, case)| run(case, cases, seed, *slip).2.map(|at| (name, at)));
         match noticed {
             Some((name, at)) => println!("{slip:?}: noticed by {name}, case {at}"),
@@ -44,7 +25,7 @@ fn slips(cases: u64, seed: u64) -> bool {
             }
         }
     }
-    println!("slips: {} of {} noticed", tried.len() - missed, tried.len());
+    println!("slips: {} of {} noticed", SLIPS.len() - missed, SLIPS.len());
     missed == 0
 }
 

@@ -1,8 +1,6 @@
 //! The proved functions, called as a C host calls them, with a guard on both sides of every buffer that they may write.
 use crate::model::{Found, SearchBuffers, SearchInput};
-#[cfg(builds)]
 use crate::model::{Blocking, List, Summary};
-#[cfg(builds)]
 use crate::model_build::Scratch;
 use crate::model_build::{BuildBuffers, BuildInput, Written};
 use merino::raw::{merino_push, merino_search};
@@ -141,7 +139,6 @@ pub fn timed_search(g: &SearchInput, b: &mut SearchBuffers) -> (Found, f64) {
 }
 
 /// A choice's numbers: blocking, block size, fraction, minimum size, cut. What a choice does not look at is noise.
-#[cfg(builds)]
 fn blocking_numbers(b: Blocking, noise: u64) -> (u64, u64, f32, u64, u64) {
     let float = f32::from_bits(noise as u32);
     match b {
@@ -150,8 +147,6 @@ fn blocking_numbers(b: Blocking, noise: u64) -> (u64, u64, f32, u64, u64) {
         Blocking::Approximate { fraction, minimum, cut } => (noise.max(2), noise, fraction, minimum, cut),
     }
 }
-
-#[cfg(builds)]
 fn summary_numbers(s: Summary, noise: u64) -> (u64, u64, f32) {
     match s {
         Summary::Fixed { size } => (0, size, f32::from_bits(noise as u32)),
@@ -159,14 +154,7 @@ fn summary_numbers(s: Summary, noise: u64) -> (u64, u64, f32) {
     }
 }
 
-/// A build with guards; None where the library has none yet.
-#[cfg(not(builds))]
-pub fn build(_: &BuildInput, _: &mut BuildBuffers, _: u64) -> Option<Result<Written, u64>> {
-    None
-}
-
 /// A build with guards.
-#[cfg(builds)]
 pub fn build(g: &BuildInput, b: &mut BuildBuffers, noise: u64) -> Option<Result<Written, u64>> {
     const N: u64 = 0xdead_beef;
     const F: f32 = -7.5;

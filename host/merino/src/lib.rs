@@ -7,8 +7,7 @@
 //! Make the library with `rt staticlib merino` in the repository's folder, or let the environment variable `MERINO_LIB` name the folder
 //! that has libmerino.a.
 //!
-#![cfg_attr(builds, doc = "```")]
-#![cfg_attr(not(builds), doc = "```ignore")]
+//! ```
 //! use merino::{Configuration, Documents, KeptList, PostingList, Query, Visits};
 //!
 //! // three documents of two terms each, and one of none

@@ -1,6 +1,5 @@
 //! A posting list, built and searched.
 use crate::raw;
-#[cfg(builds)]
 use crate::{BlockingStrategy, ClusteringAlgorithm, Configuration, ScratchNeeds, SummarizationStrategy};
 use crate::{Documents, KeptList, Query, Refusal, SearchError};
 
@@ -144,8 +143,7 @@ impl PostingList {
     ///
     /// Refused, in this order: 8, 6, 14, 1, 2, 3 or 5, 8, 7.
     ///
-    #[cfg_attr(builds, doc = "```")]
-    #[cfg_attr(not(builds), doc = "```ignore")]
+    /// ```
     /// use merino::{BlockingStrategy, Configuration, Documents, PostingList, Refusal, SummarizationStrategy};
     /// let documents = Documents { offsets: &[0, 1, 2, 4], components: &[0, 0, 0, 1], values: &[1.0, 2.0, 1.0, 1.0] };
     /// let fixed = Configuration {
@@ -161,7 +159,6 @@ impl PostingList {
     /// assert_eq!(PostingList::build(documents, 1, &[0, 2], &[], &fixed), Err(Refusal::WrongTerms));
     /// # Ok::<(), Refusal>(())
     /// ```
-    #[cfg(builds)]
     pub fn build(documents: Documents, dimension: u64, ids: &[u64], centroids: &[u64], configuration: &Configuration) -> Result<Self, Refusal> {
         let (blocking, block_size, fraction, minimum, cut) = match configuration.blocking {
             BlockingStrategy::FixedSize { block_size } => (0, block_size, 0.0, 0, 0),
@@ -264,7 +261,6 @@ impl PostingList {
     }
 
     /// A list with room for whatever a build can write. No entry is without its term, so there are no more of them than terms listed.
-    #[cfg(builds)]
     fn roomy(documents: Documents, dimension: u64, ids: &[u64], centroids: &[u64], configuration: &Configuration) -> Self {
         let n = ids.len();
         let all = documents.components.len() as u64;
@@ -292,7 +288,6 @@ impl PostingList {
     }
 
     /// What was written, without the rest.
-    #[cfg(builds)]
     fn shrink(&mut self, [postings, offsets, components, entries, summaries]: [usize; 5]) {
         fn cut<T>(v: &mut Vec<T>, n: usize) {
             v.truncate(n);
@@ -446,6 +441,4 @@ impl PostingList {
         }
     }
 }
-
-#[cfg(builds)]
 const DIMENSION_LIMIT: u64 = 1_048_575;

@@ -74,8 +74,6 @@ extern "C" {
         skipped: *mut u64,
     ) -> u64;
 }
-
-#[cfg(builds)]
 extern "C" {
     /// Builds a posting list; [`crate::PostingList::build`] is the same in safe Rust, and has an example.
     ///
@@ -146,6 +144,3 @@ extern "C" {
         summaries_written: *mut u64,
     ) -> u64;
 }
-
-/// Whether the library that was linked can build lists.
-pub const BUILDS: bool = cfg!(builds);

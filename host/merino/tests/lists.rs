@@ -1,5 +1,4 @@
 //! Lists built and searched through the safe functions, beside a search that looks at every document.
-#![cfg(builds)]
 use merino::*;
 
 /// Small numbers that repeat from run to run.

@@ -65,14 +65,7 @@ mod sides {
         }
     }
 
-    /// Seconds and result of the proved build; None where the library has none yet.
-    #[cfg(not(builds))]
-    fn our_build(_: &Store, _: &[u64], _: &[u64]) -> Option<(f64, List)> {
-        None
-    }
-
     /// Seconds and result of the proved build.
-    #[cfg(builds)]
     fn our_build(s: &Store, ids: &[u64], centroids: &[u64]) -> Option<(f64, List)> {
         use merino::*;
         let documents = merino::Documents { offsets: &s.ours.offsets, components: &s.ours.components, values: &s.ours.values };

@@ -1,0 +1,67 @@
+-- The documents of a list in block order are those listed; what holds of each listed one holds there too. Assumes nothing.
+use Prim.Native.Nat.{ℕ, suc, _+_, _-_, _≤_, _<_}
+use native.Mathlib.Omega.{arith}
+use mathlib.Core.Path.{_≡_, refl, sym, ap, _∙_, subst}
+use mathlib.Core.Bool.{Bool, true, false, _&&_, true≢false}
+use mathlib.Core.List.{List, [], _∷_, _++_, map, List·Permᴰ, Permᴰ·symm}
+use lib.ListN.{length}
+use lib.Dec.{leb, ltb}
+use borrow.Author.Tests.{ltb-true, leb-true, lt-leb, le-ltb, le-leb}
+use Rattle.refusal.specs.declared.Verdict.the-variants as verdict
+use Rattle.refusal.specs.First.{firstOf, accepted-by}
+use Rattle.configuration.specs.declared.BlockingStrategy.{BlockingStrategy}
+use Rattle.configuration.specs.declared.BlockingStrategy.the-variants.{FixedSize, RandomKmeans}
+use Rattle.lists.specs.Lists.{EachOf, every, joined}
+use Rattle.packing.specs.Packing as range
+use Rattle.documents.specs.Documents.{Documents, start, size, packed}
+use Rattle.clusters.specs.Clusters.{clusters}
+use Rattle.admission.specs.Admission.{startsFit, lengthsFit}
+use Rattle.building.specs.Built.{Input, inClusters, assignedIn, blockedIn, blocks}
+use Rattle.building.specs.Shares.{clusters-share, assigned-documents}
+use Rattle.building.specs.Stored.{every-each}
+use Rattle.list_layout.specs.Laid.{packedNumber, postingOf}
+
+pub each-every : {A : Type 0} (p : A → Bool) (l : List A) → EachOf (λ x. p x ≡ true) l → every p l ≡ true
+each-every p [] e = refl
+each-every p (x ∷ l) e = let i = each-every p l (e .1) in rw (e .0, i)
+
+module _ (P : ℕ → Type 0) where
+  each-permuted : {l r : List ℕ} → List·Permᴰ l r → EachOf P l → EachOf P r
+  each-permuted List·Permᴰ.List·Permᴰ·nil h = h
+  each-permuted (List·Permᴰ.List·Permᴰ·cons e d) h = (subst P e (h .0), each-permuted d (h .1))
+  each-permuted (List·Permᴰ.List·Permᴰ·swap e f) h = (subst P f (h .1 .0), (subst P e (h .0), h .1 .1))
+  each-permuted (List·Permᴰ.List·Permᴰ·trans d e) h = each-permuted e (each-permuted d h)
+
+  in-clusters : (bs : List (List ℕ)) → EachOf P (joined bs) → EachOf P ((inClusters bs) .documents)
+  in-clusters [] e = tt
+  in-clusters (b ∷ bs) e = e
+
+  pub documents-each : (g : Input) → EachOf P (g .ids) → EachOf P (blocks g .documents)
+  unfolding blocks
+  documents-each g e = go (g .blocking)
+    where
+      go : (k : BlockingStrategy) → EachOf P (blockedIn k g .documents)
+      go (FixedSize size) = e
+      go (RandomKmeans fraction minimum algorithm) =
+          let pairs = assignedIn algorithm minimum g in
+          in-clusters (clusters pairs) (each-permuted (Permᴰ·symm (clusters-share pairs)) (subst (EachOf P) (sym (assigned-documents algorithm minimum g)) e))
+
+-- ---- a document whose range can be packed
+posting-packed : (d : Documents) (i : ℕ) → ltb (start d i) range.startLimit ≡ true → leb (size d i) range.lengthLimit ≡ true → postingOf d i ≡ packed d i
+unfolding range.packed
+posting-packed d i a b = go (start d i) (size d i) a b
+  where
+    go : (s n : ℕ) → ltb s range.startLimit ≡ true → leb n range.lengthLimit ≡ true → packedNumber (range.packed s (s + n)) ≡ range.packOf s n
+    go s n a b =
+        ap (λ n. packedNumber (range.answered (firstOf (range.packingTests s n)) (range.packOf s n))) (let e : s + n - s ≡ n = omega arith in e)
+        ∙ ap (λ v. packedNumber (range.answered v (range.packOf s n))) (accepted-by (range.packingTests s n) (lt-leb range.startLimit s (ltb-true s range.startLimit a), (le-ltb range.lengthLimit n (leb-true n range.lengthLimit b), tt)))
+
+pub postings-packed : (g : Input) → startsFit (g .documents) (g .ids) ≡ true → lengthsFit (g .documents) (g .ids) ≡ true → map (postingOf (g .documents)) (blocks g .documents) ≡ map (packed (g .documents)) (blocks g .documents)
+postings-packed g a b =
+    let d = g .documents in
+    go (blocks g .documents) (documents-each (λ i. ltb (start d i) range.startLimit ≡ true) g (every-each (λ i. ltb (start d i) range.startLimit) (g .ids) a))
+    (documents-each (λ i. leb (size d i) range.lengthLimit ≡ true) g (every-each (λ i. leb (size d i) range.lengthLimit) (g .ids) b))
+  where
+    go : (l : List ℕ) → EachOf (λ i. ltb (start (g .documents) i) range.startLimit ≡ true) l → EachOf (λ i. leb (size (g .documents) i) range.lengthLimit ≡ true) l → map (postingOf (g .documents)) l ≡ map (packed (g .documents)) l
+    go [] a b = refl
+    go (i ∷ l) a b = ap (λ n. n ∷ map (postingOf (g .documents)) l) (posting-packed (g .documents) i (a .0) (b .0)) ∙ ap (λ r. packed (g .documents) i ∷ r) (go l (a .1) (b .1))

@@ -1,0 +1,19 @@
+-- What crosses to C of a build, from what the build left. Assumes nothing.
+use Prim.Native.Nat.{ℕ}
+use mathlib.Core.Path.{_≡_, ap, _∙_}
+use mathlib.Core.List.{List}
+use Rattle.configuration.specs.declared.BlockingStrategy.{BlockingStrategy}
+use Rattle.configuration.specs.declared.SummarizationStrategy.{SummarizationStrategy}
+use Rattle.documents.specs.Documents.{Documents}
+use Rattle.building.specs.declared.BuildAnswer.{BuildAnswer}
+use Rattle.building.specs.Built.{input}
+use Rattle.building.specs.Building.{Lent, leaves, builds}
+use Rattle.build_numbers.specs.Shown.{BuiltNumbers, shownBuilt, seenBuilt}
+
+numbers-shown : (a : BuildAnswer) (m : Lent) {n p o c e s : ℕ} → BuiltNumbers a n p o c e s → shownBuilt n p o c e s m ≡ seenBuilt (leaves a m)
+numbers-shown a m h = simp (h .0, h .1, h .2, h .3, h .4, h .5)
+
+pub build-shows : (d : ℕ) (b b' : BlockingStrategy) (k k' : SummarizationStrategy) (ds : Documents) (ids cs : List ℕ) (l : Lent) (a : BuildAnswer) (m : Lent) {n p o c e s : ℕ}
+    → b ≡ b' → k ≡ k' → leaves a m ≡ builds (input d b k ds ids cs) l → BuiltNumbers a n p o c e s → shownBuilt n p o c e s m ≡ seenBuilt (builds (input d b' k' ds ids cs) l)
+build-shows d b b' k k' ds ids cs l a m q r w h =
+    numbers-shown a m h ∙ ap seenBuilt w ∙ ap (λ z. seenBuilt (builds (input d z k ds ids cs) l)) q ∙ ap (λ z. seenBuilt (builds (input d b' z ds ids cs) l)) r
