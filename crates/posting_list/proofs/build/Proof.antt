@@ -9,13 +9,13 @@ use Rattle.posting_list.proofs.build.Statement.{statement}
 use Rattle.posting_list.proofs.build.Tie as tie
 
 make-requires : tie.Need-make-requires
-make-requires c κs = search needs
+make-requires c κs = tt
 
 enum-known-made : tie.Need-enum-known-made
 enum-known-made c = search needs
 
 clear-output-requires : tie.Need-clear-output-requires
-clear-output-requires c κs = search needs
+clear-output-requires c κs = tt
 
 enum-known-made-2 : tie.Need-enum-known-made-2
 enum-known-made-2 c = search needs
@@ -155,48 +155,9 @@ pub build-spec : {M : Type 1} → statement M
 build-spec =
     tie.close
     (tie.spec
-    make-requires
-    enum-known-made
-    clear-output-requires
-    enum-known-made-2
-    finish-requires
-    same-length
-    same-length-2
-    same-length-3
-    same-length-4
-    same-length-5
-    same-length-6
-    same-length-7
-    same-length-8
-    same-length-9
-    same-length-10
-    same-length-11
-    same-length-12
-    same-length-13
-    same-length-14
-    same-length-15
-    same-length-16
-    same-length-17
-    same-length-18
-    same-length-19
-    returns
-    same-length-20
-    same-length-21
-    same-length-22
-    same-length-23
-    same-length-24
-    same-length-25
-    same-length-26
-    same-length-27
-    same-length-28
-    same-length-29
-    same-length-30
-    same-length-31
-    same-length-32
-    same-length-33
-    same-length-34
-    same-length-35
-    same-length-36
-    same-length-37
-    same-length-38
-    returns-2)
+    make-requires enum-known-made clear-output-requires enum-known-made-2 finish-requires same-length same-length-2 same-length-3
+    same-length-4 same-length-5 same-length-6 same-length-7 same-length-8 same-length-9 same-length-10 same-length-11
+    same-length-12 same-length-13 same-length-14 same-length-15 same-length-16 same-length-17 same-length-18 same-length-19
+    returns same-length-20 same-length-21 same-length-22 same-length-23 same-length-24 same-length-25 same-length-26
+    same-length-27 same-length-28 same-length-29 same-length-30 same-length-31 same-length-32 same-length-33 same-length-34
+    same-length-35 same-length-36 same-length-37 same-length-38 returns-2)

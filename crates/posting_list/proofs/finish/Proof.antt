@@ -17,13 +17,13 @@ slice-aggregate-write-2 : tie.Need-slice-aggregate-write-2
 slice-aggregate-write-2 c = let a = c .before .before .before .before .before .before .before .before .before .before .before .before .before .before .before .before .before .before .before .args in front-count (a .blocks .now) (a .count) (c .before .before .before .before .before .before .before .before .before .before .before .before .before .before .before .before .before .before .before .pre .1)
 
 write-requires : tie.Need-write-requires
-write-requires c κs = search needs
+write-requires c κs = tt
 
 clear-u64-requires : tie.Need-clear-u64-requires
-clear-u64-requires c κs = search needs
+clear-u64-requires c κs = tt
 
 clear-u64-requires-2 : tie.Need-clear-u64-requires-2
-clear-u64-requires-2 c κs = search needs
+clear-u64-requires-2 c κs = tt
 
 same-length : tie.Need-same-length
 same-length c = c .before .before .before .before .before .before .before .before .before .before .before .before .before .before .before .before .before .before .before .before .before .before .before .before .before .before .before .before .before .before .before .before .write .kept .1 .1 .1 .1 .1 .1 .1 .0
