@@ -30,13 +30,6 @@ use Rattle.probing.specs.Probed.{Lends, lends}
 use Rattle.probing.specs.Held.{Turned, turned, counts, keptFound, heldOutcome, heldEvaluate, Ready}
 use Rattle.probing.specs.Counted.{unvisited, unvisited-set, HasBytes}
 
--- ---- visit bytes
-pub no-byte : (v : List ℕ) (s : ℕ) → length v ≤ s → false ≡ not (eqb (getD v s 0) 0)
-no-byte v s h = rw (List·getD-eq-default v 0 h)
-
-pub no-place : (v : List ℕ) (s : ℕ) → length v ≤ s → v ≡ set v s 1
-no-place v s h = sym (set-out v s 1 h)
-
 -- ---- a range
 pub range-past : (qs : List ℕ) (ws : List Float) (cs : List ℕ) (vs : List Float) (s e : ℕ) → length cs < e → ReachesPast ≡ rangeAt qs ws cs vs s e
 range-past qs ws cs vs s e h = rw (lt-leb e (length cs) h)

@@ -21,12 +21,6 @@ use Rattle.probing.specs.Probed.{Lends, lends, listed}
 use Rattle.probing.specs.Held.{Turned, turned, counts, heldEvaluate, heldProbe, worstHeld, skipsAt, heldSkips, placesOf, heldTurn, blockAt, heldSweep}
 
 -- ---- the worst kept score, and the skip test
-pub worst-none : (n : ℕ) (xs : List Float) → n ≡ 0 → nan ≡ worstHeld n xs
-worst-none n xs h = rw (eq-eqb n 0 h)
-
-pub worst-some : (n : ℕ) (xs : List Float) (x : Float) → (n ≡ 0 → ⊥) → x ≡ getD xs (n - 1) nan → x ≡ worstHeld n xs
-worst-some n xs x h e = rw (ne-eqb n 0 h) e
-
 module _ (k : ℕ) (f x : Float) (n : ℕ) (xs : List Float) where
   pub skips-by : (w : Float) (r b : Bool) → w ≡ worstHeld n xs → r ≡ skipsAt k f x n w → r ≡ b → heldSkips k f x n xs ≡ b
   unfolding heldSkips
@@ -90,13 +84,3 @@ listed-none os i n h = let z : n - i ≡ 0 = omega arith in rw z
 
 pub listed-all : (os : List ℕ) (n : ℕ) → listedFrom os 0 n ≡ listed os n
 listed-all os n = ap (λ m. map (λ j. getD os j j) (from 0 m)) (sub-zero n)
-
-pub number-there : (os : List ℕ) (i : ℕ) → i < length os → getD os i 0 ≡ getD os i i
-number-there [] i h = absurd (omega arith)
-number-there (o ∷ os) zero h = refl
-number-there (o ∷ os) (suc i) h = again os i (suc i) (omega arith)
-  where
-    again : (l : List ℕ) (j d : ℕ) → j < length l → getD l j 0 ≡ getD l j d
-    again [] j d h = absurd (omega arith)
-    again (x ∷ l) zero d h = refl
-    again (x ∷ l) (suc j) d h = again l j d (omega arith)

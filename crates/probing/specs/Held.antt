@@ -13,6 +13,7 @@ use Rattle.documents.specs.Checks.{slicesHold}
 use Rattle.kept_list.specs.Entry.{scored}
 use Rattle.kept_list.specs.Lent.{Lent, settled}
 use Rattle.page.specs.Through.{tableOf, sieveOf}
+pub use Rattle.turns.specs.Skips.{worstHeld, skipsAt}
 use Rattle.probing.specs.declared.Answer.{Answer}
 use Rattle.probing.specs.declared.Answer.the-variants as answer
 use Rattle.probing.specs.declared.Block.{Block}
@@ -61,12 +62,6 @@ heldProbe k read ps [] c l = turned (On c) l
 heldProbe k read ps (i ∷ is) c l = next (heldEvaluate k read (getD ps i 0) i c l) (heldProbe k read ps is)
 
 -- ---- a block's turn
-abbrev pub worstHeld : ℕ → List Float → Float
-worstHeld n xs = cond (eqb n 0) nan (getD xs (n - 1) nan)
-
-abbrev pub skipsAt : ℕ → Float → Float → ℕ → Float → Bool
-skipsAt k factor score n worst = eqb n k && lt score (mul binary32 factor worst)
-
 unfoldable pub heldSkips : ℕ → Float → Float → ℕ → List Float → Bool
 heldSkips k factor score n xs = skipsAt k factor score n (worstHeld n xs)
 

@@ -1,17 +1,14 @@
 // Probing: the blocks of a posting list have their turns, and the postings of a block that is not skipped are evaluated. The scores
 // of the blocks are given; where they come from is not known here.
 ghost use mathlib.Core.Path.{_≡_};
-ghost use mathlib.Core.Bool.{not};
 ghost use Prim.Native.Nat.{_+_, _-_, _<_, _≤_, min};
 ghost use lib.ListN.{length as len, getD, set};
-ghost use lib.Dec.{eqb};
-ghost use lib.Ieee.{nan};
 ghost use Rattle.lists.specs.Lists.{from};
 ghost use Rattle.refusal.specs.First.{firstOf};
 ghost use Rattle.kept_list.specs.Lent.{lent};
 ghost use Rattle.probing.specs.Ranges.{rangeAt, rangeReading};
 ghost use Rattle.probing.specs.Probed.{terms, lends, left, tests, listed, probed};
-ghost use Rattle.probing.specs.Held.{counts as counted, turned, keptFound, heldEvaluate, heldProbe, worstHeld, skipsAt, heldTurn, blockAt, heldSweep, answerOf, Ready};
+ghost use Rattle.probing.specs.Held.{counts as counted, turned, keptFound, heldEvaluate, heldProbe, worstHeld, heldTurn, blockAt, heldSweep, answerOf, Ready};
 ghost use Rattle.probing.specs.Counted.{unvisited};
 use kept_list::Scored;
 use names::BlockNumber;
@@ -60,27 +57,6 @@ struct Counts {
 enum Turn {
     On(Counts),
     Stopped { reason: Refusal, position: u64 },
-}
-
-// A start is visited where it has a byte that is not 0.
-fn is_visited(visits: &[u8], start: RangeStart) -> bool
-    ensures { λ r. ⌜ r ≡ not (eqb (getD (now (visits .entry)) (start .0) 0) 0) ⌝ }
-{
-    let at = start.0 as usize;
-    if visits.len() <= at {
-        return false;
-    }
-    visits[at] != 0
-}
-
-// A visit writes 1.
-fn visit(visits: &mut [u8], start: RangeStart)
-    ensures { λ _. ⌜ now (visits .exit) ≡ set (now (visits .entry)) (start .0) 1 ⌝ }
-{
-    let at = start.0 as usize;
-    if at < visits.len() {
-        visits[at] = 1;
-    }
 }
 
 // The terms from a start to below an end, read against the query.
@@ -136,7 +112,7 @@ fn keep_found(
         score: score,
     };
     kept_list::settle(k, length, packed, scores, e);
-    visit(visits, start);
+    turns::visit(visits, start);
 }
 
 // One posting: passed over where its start was visited; else its range is read, and a scored one is kept if it is among the k best,
@@ -165,7 +141,7 @@ fn evaluate(
 {
     let range = posting.unpack();
     let start = range.start;
-    if is_visited(visits, start) {
+    if turns::is_visited(visits, start) {
         return Turn::On(counts);
     }
     let r = read_range(
@@ -257,37 +233,6 @@ fn probe_postings(
     Turn::On(c)
 }
 
-// A score at a place, or a NaN where there is none: with it no block is skipped.
-fn dot_at(dots: &[f32], at: usize) -> f32
-    ensures { λ r. ⌜ r ≡ getD (now (dots .entry)) at nan ⌝ }
-{
-    if at < dots.len() { dots[at] } else { 0.0 / 0.0 }
-}
-
-// The worst kept score, the last one; a NaN where nothing is kept.
-fn worst_kept(length: u64, scores: &[f32]) -> f32
-    ensures { λ r. ⌜ r ≡ worstHeld length (now (scores .entry)) ⌝ }
-{
-    if length == 0 {
-        return 0.0 / 0.0;
-    }
-    dot_at(scores, (length - 1) as usize)
-}
-
-// Whether a block is skipped: k are kept, and its score is below the factor times the worst kept score.
-fn skips(k: u64, factor: f32, score: f32, length: u64, worst: f32) -> bool
-    ensures { λ r. ⌜ r ≡ skipsAt k factor score length worst ⌝ }
-{
-    (length == k) & (score < factor * worst)
-}
-
-fn least(a: u64, b: usize) -> usize
-    ensures { λ r. ⌜ r ≡ min a b ⌝ }
-{
-    let n = a as usize;
-    if n <= b { n } else { b }
-}
-
 // A block's turn. The test is made with the worst of what is kept now; a skipped block marks nothing.
 fn take_turn(
     table: &[f32; 32768],
@@ -316,14 +261,14 @@ fn take_turn(
         (now (postings .entry)) block counts (lends (lent (now (length .entry)) (now (packed .entry)) (now (scores .entry))) (now (visits .entry))) ⌝ }
 {
     let n = *length;
-    if skips(k, factor, block.score, n, worst) {
+    if turns::skips(k, factor, block.score, n, worst) {
         return Turn::On(Counts {
             evaluated: counts.evaluated,
             skipped: counts.skipped + 1,
         });
     }
     let first = block.start as usize;
-    let end = least(block.end, postings.len());
+    let end = turns::least(block.end, postings.len());
     probe_postings(
         table,
         sieve,
@@ -343,48 +288,19 @@ fn take_turn(
     )
 }
 
-// A number at a place, or 0 where there is none.
-fn offset_at(offsets: &[u64], at: usize) -> u64
-    ensures { λ r. ⌜ r ≡ getD (now (offsets .entry)) at 0 ⌝ }
-{
-    if at < offsets.len() { offsets[at] } else { 0 }
-}
-
-// The end of a block is the offset after its own; the last number of all has none after it.
-fn end_at(offsets: &[u64], at: usize) -> u64
-    ensures { λ r. ⌜ r ≡ getD (now (offsets .entry)) (at + 1) 0 ⌝ }
-{
-    if at < offsets.len() {
-        offset_at(offsets, at + 1)
-    } else {
-        0
-    }
-}
-
 // What a block's turn needs to know of it.
 fn block_at(offsets: &[u64], dots: &[f32], number: BlockNumber) -> Block
     ensures { λ r. ⌜ r ≡ blockAt (now (offsets .entry)) (now (dots .entry)) (number .0) ⌝ }
 {
     let at = number.0 as usize;
-    let score = dot_at(dots, at);
-    let start = offset_at(offsets, at);
-    let end = end_at(offsets, at);
+    let score = turns::dot_at(dots, at);
+    let start = turns::offset_at(offsets, at);
+    let end = turns::end_at(offsets, at);
     Block {
         score: score,
         start: start,
         end: end,
     }
-}
-
-// The number of the block whose turn it is: the order's, as far as it goes.
-fn number_at(order: &[u64], turn: u64) -> BlockNumber
-    ensures { λ r. ⌜ r .0 ≡ getD (now (order .entry)) turn turn ⌝ }
-{
-    let at = turn as usize;
-    if at < order.len() {
-        return BlockNumber(order[at]);
-    }
-    BlockNumber(turn)
 }
 
 // So many turns, one after another.
@@ -416,10 +332,10 @@ fn sweep(
         evaluated: 0,
         skipped: 0,
     };
-    let mut worst = worst_kept(*length, scores);
+    let mut worst = turns::worst_kept(*length, scores);
     let mut i = 0u64;
     while i < turns {
-        let b = block_at(offsets, dots, number_at(order, i));
+        let b = block_at(offsets, dots, turns::number_at(order, i));
         let t = take_turn(
             table,
             sieve,
@@ -446,7 +362,7 @@ fn sweep(
                 return Turn::Stopped { reason, position };
             }
         }
-        let next = worst_kept(*length, scores);
+        let next = turns::worst_kept(*length, scores);
         worst = next;
         i += 1;
     }

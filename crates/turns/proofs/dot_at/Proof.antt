@@ -1,10 +1,10 @@
--- `probing::dot_at`: past the end there is a NaN. Assumes nothing.
+-- `turns::dot_at`: past the end there is a NaN. Assumes nothing.
 use mathlib.Core.Path.{sym}
 use lib.ListN.{List·getD-eq-default}
 use lib.Ieee.{nan, div, ofBits}
 use borrow.Author.Needs.{needs}
-use Rattle.probing.proofs.dot_at.Statement.{statement}
-use Rattle.probing.proofs.dot_at.Tie as tie
+use Rattle.turns.proofs.dot_at.Statement.{statement}
+use Rattle.turns.proofs.dot_at.Tie as tie
 
 mul-result : tie.Need-mul-result
 mul-result c = search needs

@@ -1,8 +1,8 @@
--- `probing::visit`: where there is no byte nothing is written. Assumes nothing.
-use Rattle.probing.proofs.Steps.{no-place}
+-- `turns::visit`: where there is no byte nothing is written. Assumes nothing.
+use Rattle.turns.proofs.Laws.{no-place}
 use borrow.Author.Needs.{needs}
-use Rattle.probing.proofs.visit.Statement.{statement}
-use Rattle.probing.proofs.visit.Tie as tie
+use Rattle.turns.proofs.visit.Statement.{statement}
+use Rattle.turns.proofs.visit.Tie as tie
 
 slice-write-visits : tie.Need-slice-write-visits
 slice-write-visits c = search needs

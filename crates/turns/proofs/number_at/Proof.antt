@@ -1,10 +1,10 @@
--- `probing::number_at`: the order's number, or past it the turn's. Assumes nothing.
+-- `turns::number_at`: the order's number, or past it the turn's. Assumes nothing.
 use mathlib.Core.Path.{sym}
 use lib.ListN.{List·getD-eq-default}
-use Rattle.probing.proofs.Turns.{number-there}
+use Rattle.turns.proofs.Laws.{number-there}
 use borrow.Author.Needs.{needs}
-use Rattle.probing.proofs.number_at.Statement.{statement}
-use Rattle.probing.proofs.number_at.Tie as tie
+use Rattle.turns.proofs.number_at.Statement.{statement}
+use Rattle.turns.proofs.number_at.Tie as tie
 
 mul-t6 : tie.Need-mul-t6
 mul-t6 c = search needs

@@ -1,9 +1,9 @@
--- `probing::worst_kept`: with nothing kept it is a NaN, else the last score. Assumes nothing.
+-- `turns::worst_kept`: with nothing kept it is a NaN, else the last score. Assumes nothing.
 use lib.Ieee.{div, ofBits}
-use Rattle.probing.proofs.Turns.{worst-none, worst-some}
+use Rattle.turns.proofs.Laws.{worst-none, worst-some}
 use borrow.Author.Needs.{needs}
-use Rattle.probing.proofs.worst_kept.Statement.{statement}
-use Rattle.probing.proofs.worst_kept.Tie as tie
+use Rattle.turns.proofs.worst_kept.Statement.{statement}
+use Rattle.turns.proofs.worst_kept.Tie as tie
 
 returns : tie.Need-returns
 unfolding div ofBits

@@ -1,10 +1,10 @@
--- `probing::end_at`: past the end there is 0. Assumes nothing.
+-- `turns::end_at`: past the end there is 0. Assumes nothing.
 use mathlib.Core.Path.{sym}
 use lib.ListN.{List·getD-eq-default}
 use borrow.Author.Needs.{needs}
 use native.Mathlib.Omega.{arith}
-use Rattle.probing.proofs.end_at.Statement.{statement}
-use Rattle.probing.proofs.end_at.Tie as tie
+use Rattle.turns.proofs.end_at.Statement.{statement}
+use Rattle.turns.proofs.end_at.Tie as tie
 
 add-offset-at : tie.Need-add-offset-at
 add-offset-at c = search needs

@@ -1,8 +1,8 @@
--- `probing::is_visited`: a start with no byte counts as unvisited. Assumes nothing.
-use Rattle.probing.proofs.Steps.{no-byte}
+-- `turns::is_visited`: a start with no byte counts as unvisited. Assumes nothing.
+use Rattle.turns.proofs.Laws.{no-byte}
 use borrow.Author.Needs.{needs}
-use Rattle.probing.proofs.is_visited.Statement.{statement}
-use Rattle.probing.proofs.is_visited.Tie as tie
+use Rattle.turns.proofs.is_visited.Statement.{statement}
+use Rattle.turns.proofs.is_visited.Tie as tie
 
 returns : tie.Need-returns
 returns c = let a = c .before .args in no-byte (a .visits .now) (a .start .0) (c .if1 .taken)

@@ -1,9 +1,9 @@
--- `probing::offset_at`: past the end there is 0. Assumes nothing.
+-- `turns::offset_at`: past the end there is 0. Assumes nothing.
 use mathlib.Core.Path.{sym}
 use lib.ListN.{List·getD-eq-default}
 use borrow.Author.Needs.{needs}
-use Rattle.probing.proofs.offset_at.Statement.{statement}
-use Rattle.probing.proofs.offset_at.Tie as tie
+use Rattle.turns.proofs.offset_at.Statement.{statement}
+use Rattle.turns.proofs.offset_at.Tie as tie
 
 mul-result : tie.Need-mul-result
 mul-result c = search needs
