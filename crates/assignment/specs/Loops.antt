@@ -16,7 +16,7 @@ use Rattle.float32.specs.OrderLaws.{atMost-refl, atMost-trans, atMost-total}
 use Rattle.float32.specs.Heights.{height, lt-units, at-most-is}
 use Rattle.float32.specs.Tests.{is-true, yes}
 use Rattle.lists.specs.Lists.{EachOf, those, firstOr, lastOr}
-use Rattle.lists.specs.Greatest.{highest, lastBest, last-fold, strict-fold}
+use Rattle.lists.specs.Greatest.{highest, Under, Below, last-greatest, lastBest, last-fold, strict-fold}
 use Rattle.documents.specs.Documents.{Term, Documents, terms, sum, products, dot, largest}
 use Rattle.assignment.specs.declared.Candidate.{Candidate}
 use Rattle.assignment.specs.Nearest.{candidate, centroidOf, candidates, greatest, aboveZero, nearest, nearly, ifGreater, ifNoLess, firstAbove, lastFrom, lastNoLess}
@@ -38,10 +38,10 @@ unfolding dot
 dot-fits q ts = sum-fits zero (products q ts) zero-fits
 
 -- ---- candidates by score
-abbrev noMore : Candidate → Candidate → Bool
+abbrev pub noMore : Candidate → Candidate → Bool
 noMore a b = atMost (a .score) (b .score)
 
-abbrev Fits : Candidate → Type 0
+abbrev pub Fits : Candidate → Type 0
 Fits c = T (fits binary32 (c .score))
 
 candidates-fit : (d : Documents) (q : List Term) (cs : List ℕ) → EachOf Fits (candidates d q cs)
@@ -80,6 +80,15 @@ last-is first [] e = refl
 last-is first (c ∷ cs) e =
     last-map (candidate first zero) (highest noMore (c ∷ cs))
     ∙ ap centroidOf (last-fold noMore Fits same-true other-way through (candidate first zero) c cs (e .0) (e .1))
+
+-- a candidate that none before it is above, and that all after it are below, is the one that is found
+pub last-at : (first : ℕ) (front : List Candidate) (c : Candidate) (back : List Candidate) → EachOf Fits (front ++ (c ∷ back)) → Fits c
+    → EachOf (Under noMore c) front → EachOf (Under noMore c) back → EachOf (Below noMore c) back → lastFrom first (front ++ (c ∷ back)) ≡ centroidOf c
+unfolding greatest
+last-at first front c back e f under less below =
+    sym (last-is first (front ++ (c ∷ back)) e)
+    ∙ last-map (candidate first zero) (highest noMore (front ++ (c ∷ back)))
+    ∙ ap centroidOf (last-greatest noMore front c back (same-true c f) (candidate first zero) under less below)
 
 pub nearly-loop : (d : Documents) (cut first : ℕ) (cs : List ℕ) (i : ℕ) (back : List Float)
     → lastNoLess first cs (map (λ c. dot (largest cut (terms d i)) (terms d c)) cs ++ back) ≡ nearly d cut first cs i

@@ -1,12 +1,13 @@
 // Which centroid takes a document: by all of its terms and the first greatest score above 0, or by its largest terms and the last
-// greatest score. Scores come through the centroids' index. Nothing is assumed of the slices.
+// greatest score. Scores come through the centroids' index; those of the largest terms are taken in crate slot_scores. Nothing is
+// assumed of the slices.
 ghost use mathlib.Core.Path.{_≡_};
 ghost use mathlib.Core.List.{map};
 ghost use Prim.Native.Nat.{min};
 ghost use lib.ListN.{length, take};
 ghost use lib.Seq.{sets};
 ghost use Rattle.documents.specs.Documents.{documents, terms, paired, largest};
-ghost use Rattle.documents.specs.TermKeys.{termKey};
+ghost use Rattle.documents.specs.TermKeys.{termKey, termOf};
 ghost use Rattle.assignment.specs.Scored.{scoresOf};
 ghost use Rattle.assignment.specs.Keys.{keysOf};
 ghost use Rattle.assignment.specs.Nearest.{ifGreater, ifNoLess, firstAbove, lastNoLess};
@@ -165,33 +166,23 @@ fn sort_keys(components: &[u32], values: &[f32], keys: &mut [u64]) -> usize
     n
 }
 
-// The centroid that takes a document by so many of its largest terms, the largest first; another document's id where none competes.
-// The terms' keys stay in their slice, and the scores by slot in theirs; a term whose key finds no place counts for nothing.
-pub fn nearly_to(
+// Leaves the keys of a document's terms, the largest first, at the front of a slice, and answers how many of them are within a cut: these
+// stand for so many of its largest terms. Terms that find no place are left out.
+pub fn largest_keys(
     offsets: &[u64],
     components: &[u32],
     values: &[f32],
     id: DocumentId,
     cut: u64,
-    otherwise: DocumentId,
-    competing: &[u64],
-    starts: &[u64],
-    slots: &[u64],
-    weights: &[f32],
-    scores: &mut [f32],
     keys: &mut [u64],
-) -> DocumentId
+) -> usize
     ensures { λ r. ⌜ (now (keys .exit) ≡ keysOf (now (keys .entry)) (terms (documents (now (offsets .entry)) (now (components .entry)) (now (values .entry))) (id .0)))
-        × (now (scores .exit) ≡ scoresOf (documents (now (starts .entry)) (now (slots .entry)) (now (weights .entry))) (length (now (scores .entry)))
-        (largest cut (take (length (now (keys .entry))) (terms (documents (now (offsets .entry)) (now (components .entry)) (now (values .entry))) (id .0)))))
-        × (r .0 ≡ lastNoLess (otherwise .0) (now (competing .entry)) (now (scores .exit))) ⌝ }
+        × (r ≡ min cut (min (length (terms (documents (now (offsets .entry)) (now (components .entry)) (now (values .entry))) (id .0))) (length (now (keys .entry)))))
+        × (map termOf (take r (now (keys .exit))) ≡ largest cut (take (length (now (keys .entry))) (terms (documents (now (offsets .entry)) (now (components .entry)) (now (values .entry))) (id .0)))) ⌝ }
 {
-    clearing::clear_f32(scores);
     let p = centroid_index::places_of(offsets, components, values, id);
     let from = p.from;
     let to = p.to;
     let n = sort_keys(&components[from..to], &values[from..to], keys);
-    let m = smaller(cut as usize, n);
-    centroid_index::add_keys(starts, slots, weights, &keys[..m], scores);
-    last_greatest(otherwise, competing, scores)
+    smaller(cut as usize, n)
 }

@@ -1,41 +1,18 @@
--- What a clustering answers and leaves in what it was lent. Document 01, "Clusters" and "Numbered refusals".
+-- What a clustering answers and leaves in what it was lent. Document 01, "Clusters" and "Numbered refusals"; its tests stand in cluster_checks.
 use Prim.Native.Nat.{ℕ, zero, suc, _-_}
-use mathlib.Core.Bool.{Bool, false, not, _&&_}
+use mathlib.Core.Bool.{false}
 use mathlib.Core.List.{List, [], _∷_, _++_}
 use lib.ListN.{length, replicate}
 use lib.Seq.{sets}
-use lib.Dec.{leb, ltb, eqb}
 use lib.IntN.{pos}
 use lib.Ieee.{Float, fin}
 use Rattle.lists.specs.Lists.{joined, offsetsFrom}
 use Rattle.refusal.specs.declared.Verdict.{Verdict}
 use Rattle.refusal.specs.declared.Verdict.the-variants as verdict
-use Rattle.refusal.specs.declared.Refusal.the-variants.{BufferTooShort, WrongCentroids, WrongTerms}
-use Rattle.refusal.specs.First.{Test, _gives_}
-use Rattle.documents.specs.Documents.{Documents}
-use Rattle.documents.specs.Checks.{documentsHold}
-use Rattle.centroid_index.specs.Index.{entries}
 use Rattle.clustering.specs.declared.Clustered.{Clustered}
 use Rattle.clustering.specs.declared.Clustered.the-variants as clustered
-use Rattle.clustering.specs.declared.Rooms.{Rooms}
-
--- room for n ids, m centroids and the dimension
-abbrev pub roomyBut : ℕ → ℕ → ℕ → Rooms → Bool
-roomyBut n m dimension r =
-    (((leb n (r .order) && leb m (r .order)) && (leb n (r .sorted) && leb n (r .taken))) && ((ltb m (r .blocks) && leb m (r .known)) && (leb m (r .counts) && leb m (r .scores))))
-    && (ltb dimension (r .starts) && leb dimension (r .keys))
-
--- and for so many terms of the centroids
-abbrev pub roomy : ℕ → ℕ → ℕ → ℕ → Rooms → Bool
-roomy n m dimension e r = roomyBut n m dimension r && (leb e (r .slots) && leb e (r .weights))
-
--- 14, 5 (a list needs a centroid), 4
-abbrev pub clusterTests : ℕ → Documents → List ℕ → List ℕ → Rooms → List Test
-clusterTests dimension d ids centroids r =
-    (not (documentsHold dimension d ids && documentsHold dimension d centroids) gives WrongTerms)
-    ∷ ((ltb 0 (length ids) && eqb (length centroids) 0) gives WrongCentroids)
-    ∷ (not (roomy (length ids) (length centroids) dimension (length (entries d centroids)) r) gives BufferTooShort)
-    ∷ []
+use Rattle.cluster_checks.specs.declared.Rooms.{Rooms}
+pub use Rattle.cluster_checks.specs.Tests.{roomyBut, roomy, clusterTests}
 
 -- ---- what is lent: the result's two slices, and scratch
 pub record Lent : Type 0 where

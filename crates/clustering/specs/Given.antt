@@ -1,58 +1,37 @@
--- What both modes have in common: a function that gives each document its centroid, by rank. Assumes nothing.
-use Prim.Native.Nat.{ℕ, zero, suc, _+_, _-_, _≤_, _<_, _^_}
+-- From the ranks that the passes leave to the blocks. Assumes nothing.
+use Prim.Native.Nat.{ℕ, zero, suc, _+_, _-_, _≤_, _<_, _^_, min}
 use native.Mathlib.Omega.{arith}
-use mathlib.Core.Path.{_≡_, refl, sym, ap, _∙_, subst}
-use mathlib.Core.List.{List, _++_, map}
-use lib.ListN.{length, take, drop, replicate}
-use lib.Seq.{sets, take-at}
+use mathlib.Core.Path.{_≡_, refl, sym, ap, _∙_}
+use mathlib.Core.List.{List, [], _∷_, _++_}
+use lib.ListN.{length, take, drop, replicate, length-replicate}
+use lib.Seq.{sets, take-at, take-all}
 use Rattle.configuration.specs.declared.ClusteringAlgorithm.{ClusteringAlgorithm}
 use Rattle.configuration.specs.declared.ClusteringAlgorithm.the-variants as algorithm
-use Rattle.lists.specs.Lists.{joined, offsetsFrom, those}
+use Rattle.lists.specs.Lists.{joined, offsetsFrom, those, rising}
 use Rattle.documents.specs.Documents.{Documents, terms}
 use Rattle.counting.specs.Counting.{Grouped, grouped, groupedBy}
 use Rattle.counting.specs.Grouping.{nonempty, ranks, groups-are, endsFrom}
 use Rattle.sort.specs.Sorted.{sorted}
 use Rattle.sort.specs.Laws.{length-sorted}
-use Rattle.clusters.specs.Clusters.{Assigned, assign, clusters, assignedBy}
-use Rattle.clusters.specs.Ordered.{Ordered, sorted-ordered}
+use Rattle.clusters.specs.Clusters.{Assigned, clusters, exactly, approximately, reassign, assignedBy}
 use Rattle.clusters.specs.Ranks.{rankOf, Among, rank-below}
 use Rattle.clusters.specs.Canonical.{clusters-ranked, joined-nonempty}
-use Rattle.clustering.specs.Exact.{Room, exactRanks, ranks-length, exact-ranks, exactly-is, lastCentroid, last-among}
-use Rattle.clustering.specs.Approximate.{approximateRanks, approximate-length, approximate-ranks, approximately-is, lastNearly, last-known}
+use Rattle.passes.specs.Room.{Room}
+use Rattle.modes.specs.Modes.{fitting, ranksBy, ranks-by-length, Given, given-by}
 use Rattle.clustering.specs.Answers.{offsetsOf}
 
--- the ranks that the passes of a mode leave, for slices of any length
-abbrev pub ranksBy : ClusteringAlgorithm → Documents → ℕ → List ℕ → List ℕ → ℕ → ℕ → ℕ → ℕ → ℕ → ℕ → List ℕ → List ℕ
-ranksBy algorithm.RandomKmeans d minimum centroids known s a b n k q ids = exactRanks d minimum centroids known s a b n k ids
-ranksBy (algorithm.RandomKmeansInvertedIndexApprox cut) d minimum centroids known s a b n k q ids = approximateRanks d cut minimum centroids known s a b n k q ids
+-- the groups of n entries; of none there is no group, and nothing changes
+abbrev pub groupedSome : ℕ → List ℕ → List ℕ → List ℕ → List ℕ → List ℕ → Grouped
+groupedSome zero keys entries counts order bs = grouped 0 counts order bs
+groupedSome (suc n) keys entries counts order bs = groupedBy (take (suc n) keys) (take (suc n) entries) (length counts) (length order) bs
 
-pub ranks-by-length : (g : ClusteringAlgorithm) (d : Documents) (minimum : ℕ) (C K : List ℕ) (s a b n k q : ℕ) (ids : List ℕ) → length (ranksBy g d minimum C K s a b n k q ids) ≡ length ids
-ranks-by-length algorithm.RandomKmeans d minimum C K s a b n k q ids = ranks-length d minimum C K s a b n k ids
-ranks-by-length (algorithm.RandomKmeansInvertedIndexApprox cut) d minimum C K s a b n k q ids = approximate-length d cut minimum C K s a b n k q ids
+pub grouped-some : (n : ℕ) (keys entries counts order bs : List ℕ) (g : Grouped) → (n ≡ 0 → ⊥) → g ≡ groupedBy (take n keys) (take n entries) (length counts) (length order) bs → g ≡ groupedSome n keys entries counts order bs
+grouped-some zero keys entries counts order bs g h e = absurd (h refl)
+grouped-some (suc n) keys entries counts order bs g h e = e
 
--- ---- each document's centroid by a function
-pub record Given (centroids ids t : List ℕ) (pairs : List Assigned) : Type 0 where
-  pub by : ℕ → ℕ
-  pub known : (i : ℕ) → Among (sorted centroids) (by i)
-  pub ranked : t ≡ map (λ i. rankOf (sorted centroids) (by i)) (sorted ids)
-  pub paired : assign by ids ≡ pairs
-
-pub given-by : (g : ClusteringAlgorithm) (d : Documents) (minimum : ℕ) (centroids : List ℕ) (s a b n k q : ℕ) → Room d centroids s a b n k → (ids : List ℕ) → length ids < 2 ^ 64 → ((i : ℕ) → Among (sorted ids) i → length (terms d i) ≤ q)
-    → Given centroids ids (ranksBy g d minimum centroids (sorted centroids) s a b n k q (sorted ids)) (assignedBy g d minimum centroids ids)
-given-by algorithm.RandomKmeans d minimum centroids s a b n k q room ids few fit =
-    record {
-      by = lastCentroid d minimum centroids s a b n k room ids few;
-      known = last-among d minimum centroids s a b n k room ids few;
-      ranked = exact-ranks d minimum centroids s a b n k room ids few;
-      paired = exactly-is d minimum centroids s a b n k room ids few;
-    }
-given-by (algorithm.RandomKmeansInvertedIndexApprox cut) d minimum centroids s a b n k q room ids few fit =
-    record {
-      by = lastNearly d cut minimum centroids s a b n k q room ids few fit;
-      known = last-known d cut minimum centroids s a b n k q room ids few fit;
-      ranked = approximate-ranks d cut minimum centroids s a b n k q room ids few fit;
-      paired = approximately-is d cut minimum centroids s a b n k q room ids few fit;
-    }
+pub grouped-none : (n : ℕ) (keys entries counts order bs : List ℕ) → n ≡ 0 → grouped 0 counts order bs ≡ groupedSome n keys entries counts order bs
+grouped-none zero keys entries counts order bs h = refl
+grouped-none (suc n) keys entries counts order bs h = absurd (let z : ⊥ = omega arith in z)
 
 -- ---- the blocks
 pub blocks-are : (centroids ids t : List ℕ) (pairs : List Assigned) → Given centroids ids t pairs → (k : ℕ) → length centroids ≤ k → length ids < 2 ^ 64 → (rest : ℕ) (bs : List ℕ)
@@ -72,31 +51,34 @@ blocks-are centroids ids t pairs G k room few rest bs g q =
       ap (λ (x : Grouped). x .blocks) E ∙ ap (λ z. sets bs 0 (offsetsFrom 0 z)) c,
     )
 
--- ---- the front of a sorted copy
-pub front-is : (xs rest l : List ℕ) → l ≡ sorted xs ++ rest → take (length xs) l ≡ sorted xs
-front-is xs rest l e = ap (take (length xs)) e ∙ take-at (sorted xs) rest (length xs) (length-sorted xs)
-
-pub front-ordered : (xs rest l : List ℕ) → l ≡ sorted xs ++ rest → Ordered (take (length xs) l)
-front-ordered xs rest l e = subst Ordered (sym (front-is xs rest l e)) (sorted-ordered xs)
-
-offsets-some : (n : ℕ) (cs : List (List ℕ)) → 0 < n → offsetsFrom 0 cs ≡ offsetsOf n cs
-offsets-some zero cs h = absurd (let z : ⊥ = omega arith in z)
-offsets-some (suc n) cs h = refl
+-- ---- an empty list
+empty-blocks : (g : ClusteringAlgorithm) (d : Documents) (minimum : ℕ) (centroids : List ℕ) (o : ℕ) (blocks order : List ℕ) → order ≡ replicate o 0
+    → (0 ≡ length (clusters (assignedBy g d minimum centroids []))) × (order ≡ joined (clusters (assignedBy g d minimum centroids [])) ++ replicate (o - 0) 0) × (blocks ≡ sets blocks 0 (offsetsOf 0 (clusters (assignedBy g d minimum centroids []))))
+unfolding exactly approximately reassign clusters rising
+empty-blocks algorithm.RandomKmeans d minimum centroids o blocks order e = (refl, e ∙ ap (λ n. replicate n 0) (let z : o ≡ o - 0 = omega arith in z), refl)
+empty-blocks (algorithm.RandomKmeansInvertedIndexApprox cut) d minimum centroids o blocks order e = (refl, e ∙ ap (λ n. replicate n 0) (let z : o ≡ o - 0 = omega arith in z), refl)
 
 -- ---- all steps of an accepted clustering: lists are named as the code's slices are, with what stands in them after a step
-pub blocks-done : (g : ClusteringAlgorithm) (d : Documents) (minimum : ℕ) (ids centroids : List ℕ) (s a b n k q : ℕ) → Room d centroids s a b n k → ((i : ℕ) → Among (sorted ids) i → length (terms d i) ≤ q) → length ids < 2 ^ 64 → 0 < length ids
-    → (bs taken S S' K K' t : List ℕ) (k' o m : ℕ) → k' ≡ k → o ≡ m → length ids ≤ m → S ≡ sorted ids ++ S' → K ≡ sorted centroids ++ K'
-    → t ≡ ranksBy g d minimum centroids (take (length centroids) K) s a b n k q (take (length ids) S) ++ drop (length (take (length ids) S)) taken
-    → (r : ℕ) (C' O' B' : List ℕ) → grouped r C' O' B' ≡ groupedBy (take (length ids) t) (take (length ids) S) k' o bs
-    → (r ≡ length (clusters (assignedBy g d minimum centroids ids))) × (O' ≡ joined (clusters (assignedBy g d minimum centroids ids)) ++ replicate (m - length ids) 0) × (B' ≡ sets bs 0 (offsetsOf (length ids) (clusters (assignedBy g d minimum centroids ids))))
-blocks-done g d minimum ids centroids s a b n k q room fit few some bs taken S S' K K' t k' o m ek eo h eS eK et r C' O' B' eg =
-    let fS = front-is ids S' S eS in
-    let fK = front-is centroids K' K eK in
-    let R = ranksBy g d minimum centroids (sorted centroids) s a b n k q (sorted ids) in
+pub blocks-done : (g : ClusteringAlgorithm) (d : Documents) (minimum : ℕ) (ids centroids : List ℕ) (known o s a b n k q : ℕ) → (0 < length ids → Room d centroids s a b n k) → ((i : ℕ) → Among (sorted ids) i → length (terms d i) ≤ q) → length ids < 2 ^ 64
+    → length ids ≤ o → length centroids ≤ o → length centroids ≤ known → (before taken bs : List ℕ) → length ids ≤ length before → length ids ≤ length taken
+    → (S t counts order : List ℕ) → S ≡ sorted (take (length before) ids) ++ drop (length ids) before → length counts ≡ k → order ≡ replicate o 0
+    → t ≡ ranksBy g d minimum (fitting known o centroids) (sorted (fitting known o centroids)) o s a b n k q (take (length taken) (take (length ids) S)) ++ drop (length (take (length ids) S)) taken
+    → (groupedSome (length ids) t S counts order bs .count ≡ length (clusters (assignedBy g d minimum centroids ids)))
+    × (groupedSome (length ids) t S counts order bs .order ≡ joined (clusters (assignedBy g d minimum centroids ids)) ++ replicate (o - length ids) 0)
+    × (groupedSome (length ids) t S counts order bs .blocks ≡ sets bs 0 (offsetsOf (length ids) (clusters (assignedBy g d minimum centroids ids))))
+blocks-done g d minimum [] centroids known o s a b n k q room fit few ho hc hk before taken bs hS hT S t counts order eS eC eO et = empty-blocks g d minimum centroids o bs order eO
+blocks-done g d minimum (x ∷ xs) centroids known o s a b n k q room fit few ho hc hk before taken bs hS hT S t counts order eS eC eO et =
+    let ids = x ∷ xs in
+    let l = length-sorted ids in
+    let fS : take (length ids) S ≡ sorted ids =
+    ap (take (length ids)) (eS ∙ ap (λ z. sorted z ++ drop (length ids) before) (take-all (length before) ids hS)) ∙ take-at (sorted ids) (drop (length ids) before) (length ids) l in
+    let fC : fitting known o centroids ≡ centroids = take-all (min known o) centroids (omega arith) in
+    let fT : take (length taken) (take (length ids) S) ≡ sorted ids = ap (take (length taken)) fS ∙ take-all (length taken) (sorted ids) (omega arith) in
+    let R = ranksBy g d minimum centroids (sorted centroids) o s a b n k q (sorted ids) in
     let tR : take (length ids) t ≡ R =
-    ap (take (length ids)) (et ∙ (λ j. ranksBy g d minimum centroids (fK j) s a b n k q (fS j) ++ drop (length (fS j)) taken))
-    ∙ take-at R (drop (length (sorted ids)) taken) (length ids) (ranks-by-length g d minimum centroids (sorted centroids) s a b n k q (sorted ids) ∙ length-sorted ids) in
-    let em : o ≡ length ids + (m - length ids) = omega arith in
-    let G : grouped r C' O' B' ≡ groupedBy R (sorted ids) k (length ids + (m - length ids)) bs = eg ∙ (λ j. groupedBy (tR j) (fS j) (ek j) (em j) bs) in
-    let w = blocks-are centroids ids R (assignedBy g d minimum centroids ids) (given-by g d minimum centroids s a b n k q room ids few fit) k (room .counters) few (m - length ids) bs (grouped r C' O' B') G in
-    (w .0, w .1, w .2 ∙ ap (sets bs 0) (offsets-some (length ids) (clusters (assignedBy g d minimum centroids ids)) some))
+    ap (take (length ids)) (et ∙ (λ j. ranksBy g d minimum (fC j) (sorted (fC j)) o s a b n k q (fT j) ++ drop (length (fS j)) taken))
+    ∙ take-at R (drop (length (sorted ids)) taken) (length ids) (ranks-by-length g d minimum centroids (sorted centroids) o s a b n k q (sorted ids) ∙ l) in
+    let r : Room d centroids s a b n k = room (omega arith) in
+    let lo : length order ≡ length ids + (o - length ids) = ap length eO ∙ length-replicate o 0 ∙ omega arith in
+    blocks-are centroids ids R (assignedBy g d minimum centroids ids) (given-by g d minimum centroids o s a b n k q hc r ids few fit) k (r .counters) few (o - length ids) bs (groupedSome (length ids) t S counts order bs)
+    (λ j. groupedBy (tR j) (fS j) (eC j) (lo j) bs)

@@ -1,9 +1,3 @@
-pub mod Passes
-pub mod Indexes
-pub mod Sizes
-pub mod Exact
-pub mod Approximate
-pub mod Fits
 pub mod Answers
 pub mod Given
 pub mod Ready

@@ -4,30 +4,22 @@ use native.Mathlib.Omega.{arith}
 use mathlib.Core.Path.{_≡_, refl, sym, ap, _∙_, subst}
 use mathlib.Core.Bool.{Bool, true, false, not, _&&_, _||_, true≢false}
 use mathlib.Core.List.{List, [], _∷_, _++_, map}
-use lib.ListN.{length, replicate}
-use lib.Seq.{sets}
-use lib.IntN.{pos}
-use lib.Ieee.{Float, fin}
+use lib.ListN.{length}
 use lib.Dec.{leb, ltb, eqb}
 use borrow.Author.Tests.{leb-true, ltb-true, eqb-true, eqb-false, lt-ltb, not-false}
 use Rattle.float32.specs.Bound.{inBound}
-use Rattle.lists.specs.Lists.{EachOf, every, joined, among, strictlyRise, rising}
-use Rattle.refusal.specs.declared.Verdict.the-variants.{Accepted, Refused}
-use Rattle.refusal.specs.declared.Verdict.{Verdict}
-use Rattle.refusal.specs.declared.Refusal.the-variants.{BufferTooShort, WrongCentroids, WrongTerms}
-use Rattle.refusal.specs.First.{_gives_, firstOf, faultless}
-use Rattle.configuration.specs.declared.ClusteringAlgorithm.{ClusteringAlgorithm}
-use Rattle.configuration.specs.declared.ClusteringAlgorithm.the-variants as algorithm
+use Rattle.lists.specs.Lists.{EachOf, every, among, strictlyRise}
+use Rattle.refusal.specs.declared.Verdict.the-variants.{Accepted}
+use Rattle.refusal.specs.First.{firstOf, faultless}
 use Rattle.documents.specs.Documents.{Term, Documents, terms}
 use Rattle.documents.specs.Checks.{termsHold, termsHoldBelow, documentsHold}
 use Rattle.centroid_index.specs.Index.{Entry, entry, componentOf, entriesFrom, entries}
 use Rattle.sort.specs.Sorted.{sorted as sortedList}
-use Rattle.clustering.specs.declared.Rooms.{Rooms}
-use Rattle.clusters.specs.Clusters.{clusters, exactly, approximately, reassign, assignedBy}
+use Rattle.cluster_checks.specs.declared.Rooms.{Rooms}
 use Rattle.clusters.specs.Ordered.{among-sorted}
 use Rattle.clusters.specs.Ranks.{Among}
-use Rattle.clustering.specs.Exact.{Room}
-use Rattle.clustering.specs.Answers.{roomyBut, roomy, clusterTests, offsetsOf, zeros, zeroValues}
+use Rattle.passes.specs.Room.{Room}
+use Rattle.cluster_checks.specs.Tests.{roomyBut, roomy, clusterTests}
 
 both : (a b : Bool) → (a && b) ≡ true → (a ≡ true) × (b ≡ true)
 both true b e = (refl, e)
@@ -135,47 +127,3 @@ ready dimension d ids centroids r h =
   where
     some : 0 < length ids → (ltb 0 (length ids) && eqb (length centroids) 0) ≡ false → 0 < length centroids
     some g e = let z = eqb-false (length centroids) 0 (sym (ap (λ b. b && eqb (length centroids) 0) (lt-ltb 0 (length ids) g)) ∙ e) in omega arith
-
--- ---- the verdict, test by test
-abbrev pub verdictOf : Bool → Bool → Bool → Bool → Bool → Bool → Verdict
-verdictOf a b c r e f = firstOf ((not (a && b) gives WrongTerms) ∷ (c gives WrongCentroids) ∷ (not (r && (e && f)) gives BufferTooShort) ∷ [])
-
-module _ (a b c r e f : Bool) where
-  pub verdict-1 : a ≡ false → Refused WrongTerms ≡ verdictOf a b c r e f
-  verdict-1 h = λ j. verdictOf (sym h j) b c r e f
-
-  pub verdict-2 : a ≡ true → b ≡ false → Refused WrongTerms ≡ verdictOf a b c r e f
-  verdict-2 h g = λ j. verdictOf (sym h j) (sym g j) c r e f
-
-  pub verdict-3 : a ≡ true → b ≡ true → c ≡ true → Refused WrongCentroids ≡ verdictOf a b c r e f
-  verdict-3 h g k = λ j. verdictOf (sym h j) (sym g j) (sym k j) r e f
-
-  pub verdict-4 : a ≡ true → b ≡ true → c ≡ false → r ≡ false → Refused BufferTooShort ≡ verdictOf a b c r e f
-  verdict-4 h g k p = λ j. verdictOf (sym h j) (sym g j) (sym k j) (sym p j) e f
-
-  pub verdict-5 : a ≡ true → b ≡ true → c ≡ false → r ≡ true → e ≡ false → Refused BufferTooShort ≡ verdictOf a b c r e f
-  verdict-5 h g k p q = λ j. verdictOf (sym h j) (sym g j) (sym k j) (sym p j) (sym q j) f
-
-  pub verdict-6 : a ≡ true → b ≡ true → c ≡ false → r ≡ true → e ≡ true → f ≡ false → Refused BufferTooShort ≡ verdictOf a b c r e f
-  verdict-6 h g k p q s = λ j. verdictOf (sym h j) (sym g j) (sym k j) (sym p j) (sym q j) (sym s j)
-
-  pub verdict-7 : a ≡ true → b ≡ true → c ≡ false → r ≡ true → e ≡ true → f ≡ true → Accepted ≡ verdictOf a b c r e f
-  verdict-7 h g k p q s = λ j. verdictOf (sym h j) (sym g j) (sym k j) (sym p j) (sym q j) (sym s j)
-
--- ---- an empty list
-all-left : (l : List ℕ) → zeros l ≡ replicate (length l - 0) 0
-all-left l = ap (λ n. replicate n 0) (let z : length l ≡ length l - 0 = omega arith in z)
-
-pub empty-blocks : (g : ClusteringAlgorithm) (d : Documents) (minimum : ℕ) (centroids ids order blocks O' : List ℕ) → length ids ≡ 0 → O' ≡ zeros order
-    → (0 ≡ length (clusters (assignedBy g d minimum centroids ids))) × (O' ≡ joined (clusters (assignedBy g d minimum centroids ids)) ++ replicate (length order - length ids) 0) × (blocks ≡ sets blocks 0 (offsetsOf (length ids) (clusters (assignedBy g d minimum centroids ids))))
-unfolding exactly approximately reassign clusters rising
-empty-blocks algorithm.RandomKmeans d minimum centroids [] order blocks O' h e = (refl, e ∙ all-left order, refl)
-empty-blocks (algorithm.RandomKmeansInvertedIndexApprox cut) d minimum centroids [] order blocks O' h e = (refl, e ∙ all-left order, refl)
-empty-blocks g d minimum centroids (i ∷ ids) order blocks O' h e = absurd (let z : ⊥ = omega arith in z)
-
--- ---- cleared again
-pub cleared : (x y z : List ℕ) → z ≡ zeros y → length y ≡ length x → z ≡ zeros x
-cleared x y z e l = e ∙ ap (λ n. replicate n 0) l
-
-pub cleared-values : (x y z : List Float) → z ≡ zeroValues y → length y ≡ length x → z ≡ zeroValues x
-cleared-values x y z e l = e ∙ ap (λ n. replicate n (fin false 0 (pos 0))) l

@@ -1,16 +1,13 @@
 // The kept list: the k best ranges found so far, best first. It lies in lent memory as two slices side by side, packed
-// numbers and scores, with the number of entries beside them.
-use refusal::Refusal;
-use refusal::Verdict;
+// numbers and scores, with the number of entries beside them. A push with its refusals stands in crate pushing.
 ghost use mathlib.Core.Path.{_≡_};
-ghost use Prim.Native.Nat.{suc, min, _≤_, _<_, _+_};
-ghost use lib.ListN.{length as len, getD};
+ghost use Prim.Native.Nat.{_≤_, _<_, _+_};
+ghost use lib.ListN.{length as len};
 ghost use lib.Ieee.{nan};
 ghost use Rattle.kept_list.specs.Entry.{scored, better as isBetter};
-ghost use Rattle.kept_list.specs.Lent.{lent, entryAt, entries, inserted, settled};
+ghost use Rattle.kept_list.specs.Lent.{lent, inserted, settled};
 ghost use Rattle.kept_list.specs.Place.{Placed};
 ghost use Rattle.kept_list.specs.Fours.{fourBelow, Fitting, fourPassed};
-ghost use Rattle.kept_list.specs.Push.{sound, wellKept, verdictOf, left, pushed};
 
 // A range found, with its score.
 pub struct Scored {
@@ -35,15 +32,6 @@ impl Scored {
     }
 }
 
-// The entry at a place of the two slices.
-fn entry(at: usize, packed: &[u64], scores: &[f32]) -> Scored
-    requires { ⌜ at < len (now packed) ⌝ }
-    requires { ⌜ at < len (now scores) ⌝ }
-    ensures { λ r. ⌜ r ≡ entryAt at (now (packed .entry)) (now (scores .entry)) ⌝ }
-{
-    Scored::new(packed[at], scores[at])
-}
-
 // Whether the four scores right above a place are all below x: an entry with score x is better than those four. That the scores are
 // values of the format is said for whoever relies on it.
 fn four_below(i: usize, scores: &[f32], x: f32) -> bool
@@ -57,11 +45,11 @@ fn four_below(i: usize, scores: &[f32], x: f32) -> bool
     (scores[a] < x) & ((scores[b] < x) & ((scores[c] < x) & (scores[d] < x)))
 }
 
-// The entry at a place is exchanged with the four above it at once: each goes down by one. The four are read before a place is
-// written, so that the compiler can move them together.
-fn pass_four(i: usize, packed: &mut [u64], scores: &mut [f32], e: Scored)
-    requires { ⌜ (4 ≤ i) × (i < len (now packed)) × (i < len (now scores)) ⌝ }
-    ensures { λ _. ⌜ (now (packed .exit) ≡ fourPassed 0 (e .packed) i (now (packed .entry))) × (now (scores .exit) ≡ fourPassed nan (e .score) i (now (scores .entry))) ⌝ }
+// The four packed numbers above a place go down by one, and p is laid above them. The four are read before a place is written, so that
+// the compiler can move them together.
+fn pass_packed(i: usize, packed: &mut [u64], p: u64)
+    requires { ⌜ (4 ≤ i) × (i < len (now packed)) ⌝ }
+    ensures { λ _. ⌜ now (packed .exit) ≡ fourPassed 0 p i (now (packed .entry)) ⌝ }
 {
     let a = i - 1;
     let b = i - 2;
@@ -75,7 +63,18 @@ fn pass_four(i: usize, packed: &mut [u64], scores: &mut [f32], e: Scored)
     packed[a] = p2;
     packed[b] = p3;
     packed[c] = p4;
-    packed[d] = e.packed;
+    packed[d] = p;
+}
+
+// The same of four scores.
+fn pass_scores(i: usize, scores: &mut [f32], x: f32)
+    requires { ⌜ (4 ≤ i) × (i < len (now scores)) ⌝ }
+    ensures { λ _. ⌜ now (scores .exit) ≡ fourPassed nan x i (now (scores .entry)) ⌝ }
+{
+    let a = i - 1;
+    let b = i - 2;
+    let c = i - 3;
+    let d = i - 4;
     let x1 = scores[a];
     let x2 = scores[b];
     let x3 = scores[c];
@@ -84,7 +83,16 @@ fn pass_four(i: usize, packed: &mut [u64], scores: &mut [f32], e: Scored)
     scores[a] = x2;
     scores[b] = x3;
     scores[c] = x4;
-    scores[d] = e.score;
+    scores[d] = x;
+}
+
+// The entry at a place is exchanged with the four above it at once: each goes down by one.
+fn pass_four(i: usize, packed: &mut [u64], scores: &mut [f32], e: Scored)
+    requires { ⌜ (4 ≤ i) × (i < len (now packed)) × (i < len (now scores)) ⌝ }
+    ensures { λ _. ⌜ (now (packed .exit) ≡ fourPassed 0 (e .packed) i (now (packed .entry))) × (now (scores .exit) ≡ fourPassed nan (e .score) i (now (scores .entry))) ⌝ }
+{
+    pass_packed(i, packed, e.packed);
+    pass_scores(i, scores, e.score);
 }
 
 // The entry is laid down at a place and goes up past the worse ones right above it, exchanged with four at once where their scores are
@@ -146,7 +154,7 @@ fn find_place(k: u64, length: u64, packed: &[u64], scores: &[f32], e: Scored) ->
     if (most < n) | (packed.len() < n) | (scores.len() < n) {
         return Place::Nowhere;
     }
-    let worst = entry(last, packed, scores);
+    let worst = Scored::new(packed[last], scores[last]);
     if e.better(worst) {
         return Place::At(last);
     }
@@ -164,76 +172,4 @@ pub fn settle(k: u64, length: &mut u64, packed: &mut [u64], scores: &mut [f32], 
         *length = (at + 1) as u64;
         insert(at, packed, scores, e);
     }
-}
-
-// Whether the first entries of the slices, at least one, stand best first without a NaN. A NaN is above every score, so in
-// a list in order it would stand first. One pass without an early exit, which the compiler can do several entries at a time.
-fn is_sound(length: usize, packed: &[u64], scores: &[f32]) -> bool
-    requires { ⌜ (0 < length) × (length ≤ len (now packed)) ⌝ }
-    requires { ⌜ length ≤ len (now scores) ⌝ }
-    ensures { λ r. ⌜ r ≡ sound (entries (lent length (now (packed .entry)) (now (scores .entry)))) ⌝ }
-{
-    let first = scores[0];
-    let mut ok = first == first;
-    let mut i = 1;
-    while i < length {
-        let above = entry(i - 1, packed, scores);
-        ok = ok & !entry(i, packed, scores).better(above);
-        i += 1;
-    }
-    ok
-}
-
-// Whether refusal 12 finds no fault with a kept list: at most k entries, no more than the buffers hold, best first, no NaN.
-pub fn is_well_kept(k: u64, length: u64, packed: &[u64], scores: &[f32]) -> bool
-    ensures { λ r. ⌜ r ≡ wellKept k (lent length (now (packed .entry)) (now (scores .entry))) ⌝ }
-{
-    let n = length as usize;
-    if !((length <= k) & ((n <= packed.len()) & (n <= scores.len()))) {
-        return false;
-    }
-    if n == 0 {
-        return true;
-    }
-    is_sound(n, packed, scores)
-}
-
-// How many entries there are after a push.
-fn after_push(k: u64, length: u64) -> u64
-    ensures { λ r. ⌜ r ≡ min (suc length) k ⌝ }
-{
-    if length < k { length + 1 } else { k }
-}
-
-// The verdict on a push.
-fn admit(k: u64, length: u64, packed: &[u64], scores: &[f32], e: Scored) -> Verdict
-    ensures { λ r. ⌜ r ≡ verdictOf k e (lent length (now (packed .entry)) (now (scores .entry))) ⌝ }
-{
-    if k == 0 {
-        return Verdict::Refused(Refusal::NothingToKeep);
-    }
-    let x = e.score;
-    if !(is_well_kept(k, length, packed, scores) & (x == x)) {
-        return Verdict::Refused(Refusal::WrongKeptList);
-    }
-    let need = after_push(k, length) as usize;
-    if !((need <= packed.len()) & (need <= scores.len())) {
-        return Verdict::Refused(Refusal::BufferTooShort);
-    }
-    Verdict::Accepted
-}
-
-// A push onto the kept list. Refused with 11 where k is 0; with 12 where the kept entries number more than k or than the
-// buffers hold, are out of order, or they or the pushed score hold a NaN; with 4 where a buffer has no place for the result.
-// A refused push changes nothing.
-pub fn push(k: u64, length: &mut u64, packed: &mut [u64], scores: &mut [f32], e: Scored) -> Verdict
-    ensures { λ r. ⌜ left r (lent (now (length .exit)) (now (packed .exit)) (now (scores .exit)))
-        ≡ pushed k e (lent (now (length .entry)) (now (packed .entry)) (now (scores .entry))) ⌝ }
-{
-    let verdict = admit(k, *length, packed, scores, e);
-    if let Verdict::Refused(_) = verdict {
-        return verdict;
-    }
-    settle(k, length, packed, scores, e);
-    verdict
 }

@@ -24,15 +24,16 @@ use Rattle.centroid_index.specs.Index.{entries}
 use Rattle.clusters.specs.Clusters.{reassign, exactly, approximately, assignedBy, clusters, documentOf}
 use Rattle.clustering.specs.declared.Clustered.{Clustered}
 use Rattle.clustering.specs.declared.Clustered.the-variants as clustered
-use Rattle.clustering.specs.declared.Rooms.{Rooms}
+use Rattle.cluster_checks.specs.declared.Rooms.{Rooms}
 use Rattle.clustering.specs.Answers.{clusterTests, roomy, Lent, left as leftAfter, answered, offsetsOf, roomsOf}
 use Rattle.building.specs.Built.{Input, input, inClusters}
 use Rattle.building.specs.Building.{Scratches, scratches, laid, clearedScratch}
 use Rattle.building.specs.Shares.{assigned-documents}
 use Rattle.building.specs.Blocks.{blocks-few, blocks-within}
 use Rattle.building.specs.Offsets.{clusters-long}
-use Rattle.list_blocks.specs.declared.ListBlocks.the-variants.{Offsets, Refused}
-use Rattle.list_blocks.specs.Made.{left, leftBy, holding, lentOf, GroupFits}
+use Rattle.list_ready.specs.declared.ListBlocks.the-variants.{Offsets, Refused}
+use Rattle.list_ready.specs.Made.{left, leftBy, holding}
+use Rattle.list_blocks.specs.Fits.{lentOf, GroupFits}
 
 -- ---- an empty list
 none : (k : ClusteringAlgorithm) (d : Documents) (minimum : ℕ) (centroids : List ℕ) → clusters (assignedBy k d minimum centroids []) ≡ []

@@ -1,25 +1,20 @@
--- Copying, the verdict, and fixed blocking, over plain lists. Assumes nothing.
+-- Copying and fixed blocking, over plain lists. Assumes nothing.
 use Prim.Native.Nat.{ℕ, suc, _+_, _/_, _≤_, _<_}
 use native.Mathlib.Omega.{arith}
 use native.Mathlib.Numerals.{add-one}
 use mathlib.Core.Path.{_≡_, refl, sym, ap, _∙_}
-use mathlib.Core.Bool.{Bool, true, false, not, cond, true≢false}
+use mathlib.Core.Bool.{Bool, true, false, true≢false}
 use mathlib.Core.List.{List, [], _∷_, _++_, append-assoc}
 use lib.ListN.{length, getD, set, take, drop}
 use lib.Seq.{length-take-le, take-length, take-suc, drop-cons, set-at}
 use Rattle.refusal.specs.declared.Refusal.{Refusal}
-use Rattle.refusal.specs.declared.Refusal.the-variants.{BufferTooShort}
-use Rattle.refusal.specs.declared.Verdict.{Verdict}
 use Rattle.refusal.specs.declared.Verdict.the-variants as verdict
-use Rattle.refusal.specs.First.{Test, _gives_, firstOf, faultless, first-after}
+use Rattle.refusal.specs.First.{firstOf}
 use Rattle.blocking.specs.declared.BlockingAnswer.{BlockingAnswer}
 use Rattle.blocking.specs.declared.BlockingAnswer.the-variants.{Written, Refused}
 use Rattle.blocking.specs.Blocking.{blockingTests, answered, blocked, left as leftIn, offsetsLeft, fixedOffsets}
 use Rattle.blocking.specs.Laws.{offsets-number}
-use Rattle.building.specs.Needs.{Scratch, scratchSuffices}
 use Rattle.building.specs.Building.{laid}
-use Rattle.scratch.specs.declared.ScratchLengths.{ScratchLengths}
-use Rattle.scratch.specs.Lengths.{shown, lengthsOf}
 
 -- ---- so many ids copied, and the rest as it was
 pub copy-step : (ids before now : List ℕ) (i : ℕ) → i < length ids → length ids ≤ length before → now ≡ take i ids ++ drop i before → set now i (getD ids i 0) ≡ take (i + 1) ids ++ drop (i + 1) before
@@ -32,32 +27,6 @@ copy-step ids before now i h k e =
 
 pub copy-end : (ids before now : List ℕ) (i : ℕ) → length ids ≤ i → i ≤ length ids → now ≡ take i ids ++ drop i before → now ≡ laid ids before
 copy-end ids before now i h k e = let z : i ≡ length ids = omega arith in e ∙ ap (λ n. take n ids ++ drop n before) z ∙ ap (λ l. l ++ drop (length ids) before) (take-length ids)
-
--- ---- the first refusal
-first-refused : (a b : List Test) (r : Refusal) → firstOf a ≡ verdict.Refused r → firstOf (a ++ b) ≡ verdict.Refused r
-first-refused [] b r e = absurd (let z : _≡_ {A = Bool} true false = cc in true≢false z)
-first-refused (t ∷ a) b r e = go (t .fault) e (first-refused a b r)
-  where
-    go : (f : Bool) → cond f (verdict.Refused (t .reason)) (firstOf a) ≡ verdict.Refused r → (firstOf a ≡ verdict.Refused r → firstOf (a ++ b) ≡ verdict.Refused r) → cond f (verdict.Refused (t .reason)) (firstOf (a ++ b)) ≡ verdict.Refused r
-    go true e i = e
-    go false e i = i e
-
-pub refused-early : (a b : List Test) (v : Verdict) (r : Refusal) → v ≡ firstOf a → v ≡ verdict.Refused r → verdict.Refused r ≡ firstOf (a ++ b)
-refused-early a b v r e h = sym (first-refused a b r (sym e ∙ h))
-
-abbrev roomTest : Scratch → ScratchLengths → List Test
-roomTest x lent = (not (scratchSuffices (lengthsOf (shown x)) (lengthsOf lent)) gives BufferTooShort) ∷ []
-
-late : (a : List Test) (v : Verdict) (x : Scratch) (needed lent : ScratchLengths) (b : Bool) → v ≡ firstOf a → v ≡ verdict.Accepted → needed ≡ shown x → b ≡ scratchSuffices (lengthsOf needed) (lengthsOf lent)
-    → firstOf (a ++ roomTest x lent) ≡ cond (not b) (verdict.Refused BufferTooShort) verdict.Accepted
-late a v x needed lent b e h n s = first-after a (roomTest x lent) (faultless a (sym e ∙ h)) ∙ ap (λ b. cond (not b) (verdict.Refused BufferTooShort) verdict.Accepted) (sym (s ∙ ap (λ n. scratchSuffices (lengthsOf n) (lengthsOf lent)) n))
-
-module _ (a : List Test) (v : Verdict) (x : Scratch) (needed lent : ScratchLengths) (b : Bool) (e : v ≡ firstOf a) (h : v ≡ verdict.Accepted) (n : needed ≡ shown x) (s : b ≡ scratchSuffices (lengthsOf needed) (lengthsOf lent)) where
-  pub refused-late : b ≡ false → verdict.Refused BufferTooShort ≡ firstOf (a ++ roomTest x lent)
-  refused-late f = sym (late a v x needed lent b e h n s ∙ ap (λ b. cond (not b) (verdict.Refused BufferTooShort) verdict.Accepted) f)
-
-  pub accepted-late : b ≡ true → verdict.Accepted ≡ firstOf (a ++ roomTest x lent)
-  accepted-late f = sym (late a v x needed lent b e h n s ∙ ap (λ b. cond (not b) (verdict.Refused BufferTooShort) verdict.Accepted) f)
 
 -- ---- fixed blocking that is accepted
 abbrev numberIn : BlockingAnswer → ℕ

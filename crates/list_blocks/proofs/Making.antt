@@ -9,7 +9,7 @@ use lib.ListN.{length, replicate, length-append, length-map, length-replicate}
 use lib.IntN.{pos}
 use lib.Dec.{leb, ltb, eqb}
 use lib.Ieee.{Float, fin}
-use borrow.Author.Tests.{leb-true, leb-false, le-leb, lt-leb, lt-ltb, ne-eqb, not-false}
+use borrow.Author.Tests.{leb-true, le-leb, lt-leb, lt-ltb, ne-eqb, not-false}
 use Rattle.refusal.specs.declared.Refusal.{Refusal}
 use Rattle.refusal.specs.declared.Refusal.the-variants.{BufferTooShort}
 use Rattle.refusal.specs.declared.Verdict.{Verdict}
@@ -27,48 +27,16 @@ use Rattle.centroid_index.specs.Index.{entry, entriesFrom, entries}
 use Rattle.blocking.specs.Blocking.{blockingTests, fixedOffsets}
 use Rattle.admission.specs.Admission.{centroidsUsed, blockingFaults, inputTests}
 use Rattle.clusters.specs.Clusters.{assignedBy, clusters}
-use Rattle.clustering.specs.declared.Rooms.{Rooms}
+use Rattle.cluster_checks.specs.declared.Rooms.{Rooms}
 use Rattle.clustering.specs.Answers.{roomy, clusterTests, roomsOf}
 use Rattle.building.specs.Built.{input, inClusters, blockedBy}
 use Rattle.building.specs.Needs.{Scratch, sizes, sizesFor, scratchNeeds, scratchSuffices}
 use Rattle.building.specs.Building.{Scratches, scratches, scratchLengths, laid, zeros, floatZeros, clearedScratch}
 use Rattle.building.specs.Offsets.{right-count}
-use Rattle.scratch.specs.Lengths.{capped, shown, lengthsOf}
-use Rattle.list_blocks.specs.declared.ListBlocks.{ListBlocks}
-use Rattle.list_blocks.specs.declared.ListBlocks.the-variants.{Offsets, Refused}
-use Rattle.list_blocks.specs.Made.{makeTests, left, leftBy, holding, lentOf, CutFits, GroupFits}
-
--- ---- no slice is as long as the greatest u64
-pub record Short (s : Scratches) : Type 0 where
-  pub order : length (s .order) < 18446744073709551615
-  pub blocks : length (s .blocks) < 18446744073709551615
-  pub sorted : length (s .sorted) < 18446744073709551615
-  pub known : length (s .known) < 18446744073709551615
-  pub taken : length (s .taken) < 18446744073709551615
-  pub counts : length (s .counts) < 18446744073709551615
-  pub starts : length (s .starts) < 18446744073709551615
-  pub slots : length (s .slots) < 18446744073709551615
-  pub weights : length (s .weights) < 18446744073709551615
-  pub scores : length (s .scores) < 18446744073709551615
-  pub keys : length (s .keys) < 18446744073709551615
-
-pub under-8 : (n : ℕ) → n * 8 < 9223372036854775808 → n < 18446744073709551615
-under-8 n h = omega arith
-
-pub under-4 : (n : ℕ) → n * 4 < 9223372036854775808 → n < 18446744073709551615
-under-4 n h = omega arith
-
-cap : (a b : ℕ) → b < 18446744073709551615 → leb (capped a) b ≡ leb a b
-cap a b h = go (leb a b) refl
-  where
-    go : (t : Bool) → leb a b ≡ t → leb (capped a) b ≡ t
-    go true e = le-leb (capped a) b (let k = leb-true a b e in omega arith)
-    go false e = lt-leb (capped a) b (let k = leb-false a b e in omega arith)
-
-capped-suffices : (x : Scratch) (s : Scratches) → Short s → scratchSuffices (lengthsOf (shown x)) (scratchLengths s) ≡ scratchSuffices x (scratchLengths s)
-unfolding shown scratchLengths
-capped-suffices x s h =
-    λ j. cap (x .order) (length (s .order)) (h .order) j && (cap (x .blocks) (length (s .blocks)) (h .blocks) j && (cap (x .sorted) (length (s .sorted)) (h .sorted) j && (cap (x .known) (length (s .known)) (h .known) j && (cap (x .taken) (length (s .taken)) (h .taken) j && (cap (x .counts) (length (s .counts)) (h .counts) j && (cap (x .starts) (length (s .starts)) (h .starts) j && (cap (x .slots) (length (s .slots)) (h .slots) j && (cap (x .weights) (length (s .weights)) (h .weights) j && (cap (x .scores) (length (s .scores)) (h .scores) j && cap (x .keys) (length (s .keys)) (h .keys) j)))))))))
+use Rattle.list_ready.specs.declared.ListBlocks.{ListBlocks}
+use Rattle.list_ready.specs.declared.ListBlocks.the-variants.{Offsets, Refused}
+use Rattle.list_ready.specs.Made.{makeTests, left, leftBy, holding}
+use Rattle.list_blocks.specs.Fits.{lentOf, CutFits, GroupFits}
 
 -- ---- each buffer is as long as it must be
 pub record Fits (x l : Scratch) : Type 0 where
@@ -137,11 +105,7 @@ roomy-by n m dimension e r a b c d f g h i j k l o =
     rw (le-leb n (r .order) a, le-leb m (r .order) b, le-leb n (r .sorted) c, le-leb n (r .taken) d, lt-ltb m (r .blocks) f, le-leb m (r .known) g, le-leb m (r .counts) h, le-leb m (r .scores) i, lt-ltb dimension (r .starts) j, le-leb dimension (r .keys) k, le-leb e (r .slots) l, le-leb e (r .weights) o)
 
 -- ---- the verdict over the lent buffers
-module _ (dimension : ℕ) (k : BlockingStrategy) (d : Documents) (ids centroids : List ℕ) (s : Scratches) (short : Short s) (v : Verdict)
-    (e : v ≡ firstOf (inputTests dimension k d ids centroids ++ ((not (scratchSuffices (lengthsOf (shown (scratchNeeds (sizesFor dimension k d ids centroids)))) (scratchLengths s)) gives BufferTooShort) ∷ []))) where
-  judged : v ≡ firstOf (makeTests dimension k d ids centroids s)
-  judged = e ∙ ap (λ b. firstOf (inputTests dimension k d ids centroids ++ ((not b gives BufferTooShort) ∷ []))) (capped-suffices (scratchNeeds (sizesFor dimension k d ids centroids)) s short)
-
+module _ (dimension : ℕ) (k : BlockingStrategy) (d : Documents) (ids centroids : List ℕ) (s : Scratches) (v : Verdict) (judged : v ≡ firstOf (makeTests dimension k d ids centroids s)) where
   pub refused-made : (z : Scratches) (r : Refusal) → v ≡ verdict.Refused r → z ≡ clearedScratch s → left (Refused r) z ≡ leftBy (firstOf (makeTests dimension k d ids centroids s)) (blockedBy k d centroids ids) s
   refused-made z r h c = ap (left (Refused r)) c ∙ ap (λ w. leftBy w (blockedBy k d centroids ids) s) (sym h ∙ judged)
 

@@ -2,10 +2,10 @@
 use Prim.Native.Nat.{ℕ, suc, _+_, _-_, _≤_, _<_, min}
 use native.Mathlib.Omega.{arith}
 use mathlib.Core.Path.{_≡_, refl, sym, ap, _∙_}
-use mathlib.Core.Bool.{Bool, true, false, not, _&&_, _||_, true≢false}
+use mathlib.Core.Bool.{Bool, true, false, not, _&&_, _||_, cond, true≢false}
 use mathlib.Core.List.{List, [], _∷_, _++_, map, foldl}
-use lib.ListN.{length, take, drop, replicate, length-map}
-use lib.Seq.{sets, sets-eq, length-take-le}
+use lib.ListN.{length, take, drop, replicate, length-map, length-replicate}
+use lib.Seq.{sets, sets-eq, take-at, length-take-le}
 use lib.Dec.{leb, ltb, eqb}
 use lib.Ieee.{Float}
 use borrow.Author.Tests.{ltb-false, leb-true, not-false, le-ltb}
@@ -25,10 +25,11 @@ use Rattle.layout.specs.Written.{written-components, written-offsets, written-e
 use Rattle.building.specs.Needs.{outputSuffices}
 use Rattle.building.specs.Building.{Outputs, outputs, outputLengths, filled, laid}
 use Rattle.block_documents.specs.Blocks.{topsOf, blocksHold, anyShort}
-use Rattle.block_counts.specs.Counting.{counting, countsOf, minimumsOf, stepsOf}
+use Rattle.block_counts.specs.Counting.{Counting, counting, countTests, countVerdict, countLeft, countsOf, minimumsOf, stepsOf}
 use Rattle.block_entries.specs.Filling.{filling, fillTests, fillVerdict, placedIn}
-use Rattle.list_layout.specs.Laid.{postingOf, tops, builtFrom, dimensionOutside, laidTests, laidVerdict, Placeable, Places}
-use Rattle.list_layout.specs.Tallied.{below, rare, tally, narrow, slight, component-count, start-count, entry-count, code-count, minimum-count, step-count}
+use Rattle.list_layout.specs.Laid.{postingOf, tops, builtFrom, dimensionOutside, cutTo, laidTests, laidVerdict, Placeable, Places}
+use Rattle.list_sizes.specs.Sized.{within, measuredLeft}
+use Rattle.list_sizes.specs.Tallied.{counts-long, below, rare, tally, narrow, slight, component-count, start-count, entry-count, code-count, minimum-count, step-count}
 
 sets-front : {A : Type 0} (l out : List A) → length out ≤ length l → sets l 0 out ≡ laid out l
 sets-front l out h = sets-eq out l 0 (omega arith) ∙ ap (λ n. out ++ drop n l) (let w : 0 + length out ≡ length out = omega arith in w)
@@ -126,10 +127,40 @@ module _ (dimension : ℕ) (s : SummarizationStrategy) (d : Documents) (order bl
   unfolding layout
   starts-long = ap length (starts-groups t (entriesFrom 0 (topsOf s d bs)) (tally dimension s d bs hold few small))
 
-  module _ (c postings' offsets' components' starts' ids' codes' : List ℕ) (low step : List Float)
-      (q : take dimension c ≡ countsOf (tops s d order blocks) (take dimension counts))
-      (el : low ≡ sets (o .minimums) 0 (minimumsOf (tops s d order blocks))) (es : step ≡ sets (o .steps) 0 (stepsOf (tops s d order blocks)))
+  -- what the first pass left: nothing was refused, so it counted
+  abbrev given : Counting
+  given = counting keys places maxima counts (o .minimums) (o .steps)
+
+  counted-is : (after : Counting) → after ≡ measuredLeft dimension s d order blocks given → after ≡ within dimension given (countLeft verdict.Accepted (tops s d order blocks) (cutTo dimension given))
+  unfolding countVerdict
+  counted-is after e =
+      e ∙ ap (λ f. cond f given (within dimension given (countLeft (countVerdict dimension s d bs (cutTo dimension given)) (tops s d order blocks) (cutTo dimension given)))) (faults .0)
+      ∙ ap (λ v. within dimension given (countLeft v (tops s d order blocks) (cutTo dimension given))) (accepted-by (countTests dimension s d bs (cutTo dimension given)) (faults .1 .0, (faults .1 .1 .0, (faults .1 .1 .1 .0, (faults .1 .1 .1 .1 .0, tt)))))
+
+  cut-is : min dimension (length counts) ≡ dimension
+  cut-is = at (length counts) whole
+    where
+      at : (c : ℕ) → dimension ≤ c → min dimension c ≡ dimension
+      at c h = omega arith
+
+  front-counts : (c : List ℕ) → c ≡ countsOf (tops s d order blocks) (take (min dimension (length counts)) counts) ++ drop (min dimension (length counts)) counts → take dimension c ≡ countsOf (tops s d order blocks) (take dimension counts)
+  front-counts c e =
+      ap (take dimension) e ∙ ap (λ n. take dimension (countsOf (tops s d order blocks) (take n counts) ++ drop n counts)) cut-is
+      ∙ take-at (countsOf (tops s d order blocks) (take dimension counts)) (drop dimension counts) dimension
+      (counts-long (map componentOf (entriesFrom 0 (tops s d order blocks))) (replicate (length (take dimension counts)) 0) ∙ length-replicate {A = ℕ} (length (take dimension counts)) 0 ∙ length-take-le dimension counts whole)
+
+  module _ (k' p' : List ℕ) (m' : List Float) (c postings' offsets' components' starts' ids' codes' : List ℕ) (low step : List Float)
+      (after : counting k' p' m' c low step ≡ measuredLeft dimension s d order blocks (counting keys places maxima counts (o .minimums) (o .steps)))
       (left : Places dimension s d order blocks c (o .postings) (o .offsets) (o .components) (o .componentOffsets) (o .ids) (o .codes) postings' offsets' components' starts' ids' codes') where
+    q : take dimension c ≡ countsOf (tops s d order blocks) (take dimension counts)
+    q = front-counts c (ap (λ z. z .counts) (counted-is (counting k' p' m' c low step) after))
+
+    el : low ≡ sets (o .minimums) 0 (minimumsOf (tops s d order blocks))
+    el = ap (λ z. z .minimums) (counted-is (counting k' p' m' c low step) after)
+
+    es : step ≡ sets (o .steps) 0 (stepsOf (tops s d order blocks))
+    es = ap (λ z. z .steps) (counted-is (counting k' p' m' c low step) after)
+
     counts-are : take dimension c ≡ t
     counts-are = q ∙ ap (λ n. foldl counted (replicate n 0) (map componentOf (entriesFrom 0 (topsOf s d bs)))) (length-take-le dimension counts whole)
 

@@ -1,28 +1,21 @@
--- Postings and offsets written one after another, and the room for the result. Assumes nothing.
-use Prim.Native.Nat.{ℕ, zero, suc, _+_, _-_, _≤_, _<_, min}
+-- Postings and offsets written one after another. Assumes nothing.
+use Prim.Native.Nat.{ℕ, zero, suc, _+_, _≤_, _<_}
 use native.Mathlib.Omega.{arith}
 use native.Mathlib.Numerals.{add-one}
 use mathlib.Core.Path.{_≡_, refl, sym, ap, _∙_}
-use mathlib.Core.Bool.{Bool, true, false, not, cond}
-use mathlib.Core.List.{List, [], _∷_, _++_, map, foldl, append-assoc}
+use mathlib.Core.List.{List, [], _∷_, _++_, map, append-assoc}
 use lib.ListN.{length, getD, set, take, drop, length-map}
-use lib.Seq.{length-take-le, length-front, take-length, take-at, take-suc, drop-cons, set-at}
+use lib.Seq.{length-take-le, take-length, take-suc, drop-cons, set-at}
 use Rattle.packing.specs.declared.PackedPosting.{PackedPosting}
 use Rattle.packing.specs.declared.PackingAnswer.{PackingAnswer}
 use Rattle.packing.specs.declared.PackingAnswer.the-variants.{Packed, Refused}
 use Rattle.packing.specs.Packing as range
 use Rattle.refusal.specs.declared.Refusal.{Refusal}
-use Rattle.refusal.specs.declared.Refusal.the-variants.{BufferTooShort}
 use Rattle.documents.specs.declared.DocumentRange.{DocumentRange}
 use Rattle.documents.specs.Documents.{documents}
 use Rattle.documents.specs.Answers.{rangeOf}
-use Rattle.layout.specs.Counted.{presentFrom}
-use Rattle.layout.specs.Keys.{onTo}
-use Rattle.building.specs.declared.BuildAnswer.{BuildAnswer}
-use Rattle.building.specs.declared.BuildAnswer.the-variants as answer
 use Rattle.building.specs.Building.{laid}
-use Rattle.list_layout.specs.declared.OutputLengths.{OutputLengths}
-use Rattle.list_layout.specs.Laid.{packedNumber, postingOf, judgedRoom, sizesOrRefused, roomBy, roomAnswer}
+use Rattle.list_layout.specs.Laid.{packedNumber, postingOf}
 
 -- ---- so many written, and the rest as it was
 pub write-step : (out before now : List ℕ) (i x : ℕ) → i < length out → length out ≤ length before → x ≡ getD out i 0 → now ≡ take i out ++ drop i before → set now i x ≡ take (i + 1) out ++ drop (i + 1) before
@@ -58,35 +51,3 @@ module _ (os : List ℕ) (i : ℕ) (r : DocumentRange) (a : PackingAnswer) (e : 
 
   pub posting-refused : (q : Refusal) → a ≡ Refused q → 0 ≡ postingOf (documents os [] []) i
   posting-refused q w = sym (ap packedNumber w) ∙ posting-is
-
--- ---- the room
-module _ (p o n e b : ℕ) (counts : List ℕ) (l : OutputLengths) (x : n ≡ length (presentFrom 0 counts)) (y : e ≡ foldl onTo 0 counts) (z : b ≡ o - 1) where
-  room-is : roomBy p o n e b l ≡ roomAnswer p o counts l
-  room-is = (λ j. roomBy p o (x j) (y j) (z j) l)
-
-  pub room-refused : not (judgedRoom p o n e b l) ≡ true → answer.Refused BufferTooShort ≡ roomAnswer p o counts l
-  room-refused h = sym (ap (λ t. cond t (answer.Refused BufferTooShort) (answer.Built (record { postings = p; offsets = o; components = n; entries = e; summaries = b }))) h) ∙ room-is
-
-  pub room-found : not (judgedRoom p o n e b l) ≡ false → answer.Built (record { postings = p; offsets = o; components = n; entries = e; summaries = b }) ≡ roomAnswer p o counts l
-  room-found h = sym (ap (λ t. cond t (answer.Refused BufferTooShort) (answer.Built (record { postings = p; offsets = o; components = n; entries = e; summaries = b }))) h) ∙ room-is
-
--- ---- as many as there are, up to a limit
-pub least-long : (m n k : ℕ) → k ≡ min m n → k ≤ n
-least-long m n k e = omega arith
-
-pub least-count : (l : List ℕ) (m k : ℕ) → k ≡ min m (length l) → k ≡ length (take k l)
-least-count l m k e = sym (length-take-le k l (least-long m (length l) k e))
-
--- a front that was written keeps its length
-module _ {A : Type 0} (l x : List A) (k : ℕ) (h : k ≤ length l) (e : length x ≡ length (take k l)) where
-  pub front-long : k ≤ length (x ++ drop k l)
-  front-long = let f = length-front l x k e in omega arith
-
-  pub front-count : k ≡ length (take k (x ++ drop k l))
-  front-count = sym (length-take-le k (x ++ drop k l) front-long)
-
-  pub front-is : take k (x ++ drop k l) ≡ x
-  front-is = take-at x (drop k l) k (e ∙ length-take-le k l h)
-
-pub cut-count : {A : Type 0} (l : List A) (k : ℕ) → k ≤ length l → k ≡ length (take k l)
-cut-count l k h = sym (length-take-le k l h)

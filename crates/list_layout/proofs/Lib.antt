@@ -1,5 +1,4 @@
 pub mod Laws
-pub mod Measured
 pub mod Placed
 pub mod Wrote
 pub mod Filled

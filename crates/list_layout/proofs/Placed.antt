@@ -12,7 +12,7 @@ use Rattle.layout.specs.Keys.{lent, named, scanned}
 use Rattle.block_documents.specs.Blocks.{topsOf}
 use Rattle.block_entries.specs.Filling.{Filling, filling, fillVerdict, fillLeft, placedIn}
 use Rattle.list_layout.specs.Laid.{tops}
-use Rattle.list_layout.proofs.Laws.{front-is}
+use Rattle.list_sizes.specs.Fronts.{front-is}
 
 module _ (dimension : ℕ) (s : SummarizationStrategy) (d : Documents) (order blocks keys places : List ℕ) (maxima : List Float) (counts cursors ids codes : List ℕ) (after : Filling)
     (accepted : fillVerdict dimension d (between blocks order) (filling keys places maxima (lent counts ids codes)) ≡ verdict.Accepted)

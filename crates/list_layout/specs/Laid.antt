@@ -30,39 +30,8 @@ use Rattle.building.specs.Building.{Outputs, outputs, outputLengths, zeros, flo
 use Rattle.block_documents.specs.Blocks.{topsOf, blocksHold}
 use Rattle.block_counts.specs.Counting.{Counting, counting, countTests, countsOf, minimumsOf, stepsOf}
 use Rattle.block_entries.specs.Filling.{filling, fillVerdict, placedIn}
-use Rattle.list_layout.specs.declared.OutputLengths.{OutputLengths}
-
--- ---- the result, from the documents in block order and the block offsets
--- a document's range in one number; 0 for one that cannot be packed
-abbrev pub packedNumber : PackingAnswer → ℕ
-packedNumber (packing.Packed p) = p .0
-packedNumber (packing.Refused r) = 0
-
-abbrev pub postingOf : Documents → ℕ → ℕ
-postingOf d i = packedNumber (range.packed (start d i) (start d i + size d i))
-
--- the kept terms of each block, the greatest first
-abbrev pub tops : SummarizationStrategy → Documents → List ℕ → List ℕ → List (List Term)
-tops strategy d order blocks = topsOf strategy d (between blocks order)
-
-unfoldable pub builtFrom : SummarizationStrategy → Documents → List ℕ → List ℕ → Built
-builtFrom strategy d order blocks = record { postings = map (postingOf d) order; offsets = blocks; summaries = layout (tops strategy d order blocks) }
-
--- ---- when it is refused: 8 (dimension), then as counting is, then 4 (output)
-abbrev pub dimensionOutside : ℕ → Bool
-dimensionOutside dimension = eqb dimension 0 || ltb dimensionLimit dimension
-
--- counts are taken for the components below the dimension
-abbrev pub cutTo : ℕ → Counting → Counting
-cutTo dimension w = counting (w .keys) (w .places) (w .maxima) (take (min dimension (length (w .counts))) (w .counts)) (w .minimums) (w .steps)
-
-abbrev pub laidTests : ℕ → SummarizationStrategy → Documents → List ℕ → List ℕ → Counting → Output → List Test
-laidTests dimension strategy d order blocks w room =
-    (dimensionOutside dimension gives OutsideLimits)
-    ∷ (countTests dimension strategy d (between blocks order) (cutTo dimension w) ++ ((not (outputSuffices (builtFrom strategy d order blocks) room) gives BufferTooShort) ∷ []))
-
-unfoldable pub laidVerdict : ℕ → SummarizationStrategy → Documents → List ℕ → List ℕ → Counting → Output → Verdict
-laidVerdict dimension strategy d order blocks w room = firstOf (laidTests dimension strategy d order blocks w room)
+pub use Rattle.list_sizes.specs.Sized.{packedNumber, postingOf, tops, dimensionOutside, cutTo, laidTests}
+unfoldable pub use Rattle.list_sizes.specs.Sized.{builtFrom, laidVerdict}
 
 -- ---- what it leaves
 pub record Left : Type 0 where
@@ -84,17 +53,7 @@ outputBy (verdict.Refused r) b o = clearedOutput o
 abbrev pub leftBy : Verdict → Built → Outputs → List ℕ → List ℕ → List Float → List ℕ → Left
 leftBy v b o k p m c = left (answerBy v b) (outputBy v b o) (zeros k) (zeros p) (floatZeros m) (zeros c)
 
--- ---- the parts
-abbrev pub roomOf : OutputLengths → Output
-roomOf l = record { postings = l .postings; offsets = l .offsets; components = l .components; componentOffsets = l .starts; ids = l .ids; codes = l .codes; minimums = l .minimums; steps = l .steps }
-
--- what the first pass answers and leaves
-pub record Measures (dimension : ℕ) (strategy : SummarizationStrategy) (d : Documents) (order blocks : List ℕ) (w : Counting) (room : Output) (r : BuildAnswer) (counts' : List ℕ) (minimums' steps' : List Float) : Type 0 where
-  pub answer : r ≡ answerBy (laidVerdict dimension strategy d order blocks w room) (builtFrom strategy d order blocks)
-  pub counts : laidVerdict dimension strategy d order blocks w room ≡ verdict.Accepted → take dimension counts' ≡ countsOf (tops strategy d order blocks) (take dimension (w .counts))
-  pub minimums : laidVerdict dimension strategy d order blocks w room ≡ verdict.Accepted → minimums' ≡ sets (w .minimums) 0 (minimumsOf (tops strategy d order blocks))
-  pub steps : laidVerdict dimension strategy d order blocks w room ≡ verdict.Accepted → steps' ≡ sets (w .steps) 0 (stepsOf (tops strategy d order blocks))
-
+-- ---- the second pass
 -- what the second pass asks
 pub record Placeable (dimension : ℕ) (d : Documents) (order blocks keys places : List ℕ) (maxima : List Float) (counts ids codes postings offsets : List ℕ) : Type 0 where
   pub counted : dimension ≤ length counts
@@ -110,17 +69,3 @@ pub record Places (dimension : ℕ) (strategy : SummarizationStrategy) (d : Docu
   pub starts-left : starts' ≡ laidStarts 0 0 (named (take dimension counts)) starts
   pub ids-left : ids' ≡ placedIn (lent (scanned 0 0 (named (take dimension counts)) (take dimension counts)) ids codes) (tops strategy d order blocks) .ids
   pub codes-left : codes' ≡ placedIn (lent (scanned 0 0 (named (take dimension counts)) (take dimension counts)) ids codes) (tops strategy d order blocks) .codes
-
--- the sizes of a result of so many postings, offsets, components, entries and summaries, as long as they find room
-abbrev pub judgedRoom : ℕ → ℕ → ℕ → ℕ → ℕ → OutputLengths → Bool
-judgedRoom p o n e b l = (leb p (l .postings) && leb o (l .offsets)) && ((leb n (l .components) && ltb n (l .starts)) && ((leb e (l .ids) && leb e (l .codes)) && (leb b (l .minimums) && leb b (l .steps))))
-
-abbrev pub sizesOrRefused : Bool → ℕ → ℕ → ℕ → ℕ → ℕ → BuildAnswer
-sizesOrRefused fits p o n e b = cond (not fits) (answer.Refused BufferTooShort) (answer.Built (record { postings = p; offsets = o; components = n; entries = e; summaries = b }))
-
-abbrev pub roomBy : ℕ → ℕ → ℕ → ℕ → ℕ → OutputLengths → BuildAnswer
-roomBy p o n e b l = sizesOrRefused (judgedRoom p o n e b l) p o n e b
-
--- the same for the sizes that counts give
-abbrev pub roomAnswer : ℕ → ℕ → List ℕ → OutputLengths → BuildAnswer
-roomAnswer p o counts l = roomBy p o (length (presentFrom 0 counts)) (foldl onTo 0 counts) (o - 1) l

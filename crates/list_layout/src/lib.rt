@@ -1,121 +1,19 @@
-// The result of a build, written from the blocks of its list: the blocks' summaries are counted, the room is judged, and then the
-// layout, the packed postings and the block offsets are written.
+// The result of a build, written from the blocks of its list: once their entries are counted and the room is judged, the layout, the
+// packed postings and the block offsets are written.
 use building::BuildAnswer;
-use building::BuiltSizes;
 use configuration::SummarizationStrategy;
-use layout::Sizes;
+use list_sizes::OutputLengths;
 use names::DocumentId;
 use packing::PackedPosting;
 use packing::PackingAnswer;
-use refusal::Refusal;
-use refusal::Verdict;
 ghost use mathlib.Core.Path.{_≡_};
 ghost use mathlib.Core.List.{[], map};
-ghost use Prim.Native.Nat.{_-_, _≤_, min};
+ghost use Prim.Native.Nat.{_≤_};
 ghost use lib.ListN.{length};
 ghost use Rattle.documents.specs.Documents.{documents};
 ghost use Rattle.block_counts.specs.Counting.{counting};
-ghost use Rattle.building.specs.Building.{outputs, outputLengths, laid, zeros, floatZeros, clearedOutput};
-ghost use Rattle.layout.specs.Counted.{presentFrom};
-ghost use Rattle.layout.specs.Keys.{onTo};
-ghost use Rattle.list_layout.specs.Laid.{postingOf, builtFrom, laidVerdict, left, leftBy, roomOf, roomAnswer, Measures, Placeable, Places};
-
-// How long each output buffer is.
-pub struct OutputLengths {
-    pub postings: u64,
-    pub offsets: u64,
-    pub components: u64,
-    pub starts: u64,
-    pub ids: u64,
-    pub codes: u64,
-    pub minimums: u64,
-    pub steps: u64,
-}
-
-// The lesser of two lengths.
-fn lesser(a: usize, b: usize) -> usize
-    ensures { λ r. ⌜ r ≡ min a b ⌝ }
-{
-    if a <= b { a } else { b }
-}
-
-// How many blocks so many offsets stand for.
-fn block_count(offsets: usize) -> u64
-    ensures { λ r. ⌜ r ≡ offsets - 1 ⌝ }
-{
-    if offsets == 0 {
-        0
-    } else {
-        (offsets - 1) as u64
-    }
-}
-
-// The sizes of the result, or 4 where an output buffer is too short for its part.
-fn judge_room(postings: usize, offsets: usize, counts: &[u64], lent: OutputLengths) -> BuildAnswer
-    ensures { λ r. ⌜ r ≡ roomAnswer postings offsets (now (counts .entry)) lent ⌝ }
-{
-    let sizes = layout::sizes_of(counts);
-    let summaries = block_count(offsets);
-    let entries = (sizes.entries <= lent.ids) & (sizes.entries <= lent.codes);
-    let terms = (sizes.components <= lent.components) & (sizes.components < lent.starts);
-    let blocks = (summaries <= lent.minimums) & (summaries <= lent.steps);
-    let list = (postings as u64 <= lent.postings) & (offsets as u64 <= lent.offsets);
-    if !(list & (terms & (entries & blocks))) {
-        return BuildAnswer::Refused(Refusal::BufferTooShort);
-    }
-    BuildAnswer::Built(BuiltSizes {
-        postings: postings as u64,
-        offsets: offsets as u64,
-        components: sizes.components,
-        entries: sizes.entries,
-        summaries: summaries,
-    })
-}
-
-// The first pass: counts the blocks' entries, leaves each block's minimum and step, and answers with the sizes of the result, or with
-// the refusal 8, 14, 4 (work space), 7 or 4 (output).
-fn measure(
-    dimension: u64,
-    strategy: SummarizationStrategy,
-    offsets: &[u64],
-    components: &[u32],
-    values: &[f32],
-    order: &[u64],
-    blocks: &[u64],
-    keys: &mut [u64],
-    places: &mut [u64],
-    maxima: &mut [f32],
-    counts: &mut [u64],
-    minimums: &mut [f32],
-    steps: &mut [f32],
-    lent: OutputLengths,
-) -> BuildAnswer
-    ensures { λ r. ⌜ Measures dimension strategy (documents (now (offsets .entry)) (now (components .entry)) (now (values .entry))) (now (order .entry)) (now (blocks .entry)) (counting (now (keys .entry)) (now (places .entry)) (now (maxima .entry)) (now (counts .entry)) (now (minimums .entry)) (now (steps .entry))) (roomOf lent) r (now (counts .exit)) (now (minimums .exit)) (now (steps .exit)) ⌝ }
-{
-    if blocking::limits::dimension_outside(dimension) {
-        return BuildAnswer::Refused(Refusal::OutsideLimits);
-    }
-    let n = lesser(dimension as usize, counts.len());
-    let verdict = block_counts::count(
-        dimension,
-        strategy,
-        offsets,
-        components,
-        values,
-        order,
-        blocks,
-        keys,
-        places,
-        maxima,
-        &mut counts[..n],
-        minimums,
-        steps,
-    );
-    if let Verdict::Refused(reason) = verdict {
-        return BuildAnswer::Refused(reason);
-    }
-    judge_room(order.len(), blocks.len(), &counts[..n], lent)
-}
+ghost use Rattle.building.specs.Building.{outputs, outputLengths, laid};
+ghost use Rattle.list_layout.specs.Laid.{postingOf, builtFrom, laidVerdict, left, leftBy, Placeable, Places};
 
 // A document's range in one number; 0 for one that cannot be packed.
 fn posting(offsets: &[u64], id: DocumentId) -> u64
@@ -196,39 +94,6 @@ fn place(
     write_offsets(blocks, block_offsets);
 }
 
-// Sets all output to zero.
-pub fn clear_output(
-    postings: &mut [u64],
-    block_offsets: &mut [u64],
-    summary_components: &mut [u32],
-    component_offsets: &mut [u64],
-    summary_ids: &mut [u16],
-    codes: &mut [u8],
-    minimums: &mut [f32],
-    steps: &mut [f32],
-)
-    ensures { λ _. ⌜ outputs (now (postings .exit)) (now («block_offsets» .exit)) (now («summary_components» .exit)) (now («component_offsets» .exit)) (now («summary_ids» .exit)) (now (codes .exit)) (now (minimums .exit)) (now (steps .exit)) ≡ clearedOutput (outputs (now (postings .entry)) (now («block_offsets» .entry)) (now («summary_components» .entry)) (now («component_offsets» .entry)) (now («summary_ids» .entry)) (now (codes .entry)) (now (minimums .entry)) (now (steps .entry))) ⌝ }
-{
-    clearing::clear_u64(postings);
-    clearing::clear_u64(block_offsets);
-    clearing::clear_u32(summary_components);
-    clearing::clear_u64(component_offsets);
-    clearing::clear_u16(summary_ids);
-    clearing::clear_u8(codes);
-    clearing::clear_f32(minimums);
-    clearing::clear_f32(steps);
-}
-
-// Sets the work space to zero.
-fn clear_work(keys: &mut [u64], places: &mut [u64], maxima: &mut [f32], counts: &mut [u64])
-    ensures { λ _. ⌜ (now (keys .exit) ≡ zeros (now (keys .entry))) × (now (places .exit) ≡ zeros (now (places .entry))) × (now (maxima .exit) ≡ floatZeros (now (maxima .entry))) × (now (counts .exit) ≡ zeros (now (counts .entry))) ⌝ }
-{
-    clearing::clear_u64(keys);
-    clearing::clear_u64(places);
-    clearing::clear_f32(maxima);
-    clearing::clear_u64(counts);
-}
-
 // Writes the result of a build: `order` has the list's documents in block order, and `blocks` where each block starts and where the
 // last one ends. Each output buffer has its part of the result in front, and past it nothing changes; a document whose range cannot be
 // packed counts as 0. Refuses a dimension outside its limits or more than 65,535 blocks (8), documents whose terms don't hold (14), work
@@ -269,7 +134,7 @@ pub fn write(
         minimums: minimums.len() as u64,
         steps: steps.len() as u64,
     };
-    let answer = measure(
+    let answer = list_sizes::measure(
         dimension,
         strategy,
         offsets,
@@ -287,7 +152,7 @@ pub fn write(
     );
     match answer {
         BuildAnswer::Refused(reason) => {
-            clear_output(
+            list_clearing::clear_output(
                 postings,
                 block_offsets,
                 summary_components,
@@ -297,7 +162,7 @@ pub fn write(
                 minimums,
                 steps,
             );
-            clear_work(keys, places, maxima, counts);
+            list_clearing::clear_work(keys, places, maxima, counts);
             BuildAnswer::Refused(reason)
         }
         BuildAnswer::Built(sizes) => {
@@ -320,7 +185,7 @@ pub fn write(
                 summary_ids,
                 codes,
             );
-            clear_work(keys, places, maxima, counts);
+            list_clearing::clear_work(keys, places, maxima, counts);
             BuildAnswer::Built(sizes)
         }
     }

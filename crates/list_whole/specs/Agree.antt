@@ -28,7 +28,7 @@ use Rattle.building.specs.Needs.{Scratch, Output, sizesFor, scratchNeeds, scrat
 use Rattle.building.specs.Building.{Scratches, scratchLengths, someEmpty}
 use Rattle.building.specs.Offsets.{few-blocks}
 use Rattle.building.specs.Stored.{every-each, blocks-each}
-use Rattle.list_blocks.specs.Made.{makeTests}
+use Rattle.list_ready.specs.Made.{makeTests}
 use Rattle.list_layout.specs.Laid.{postingOf, builtFrom, dimensionOutside, cutTo, laidVerdict}
 use Rattle.list_whole.specs.Listed.{each-every, postings-packed}
 

@@ -23,10 +23,10 @@ use Rattle.building.specs.Building as build
 use Rattle.building.specs.Building.{Outputs, Scratches, scratches, Lent, lent, outputLengths, scratchLengths, someEmpty, tests, verdictOf, laid, zeros, floatZeros, clearedOutput, clearedScratch, answerBy, leaves, builds}
 use Rattle.building.specs.Left.{in-front}
 use Rattle.building.specs.Offsets.{as-many}
-use Rattle.list_blocks.specs.declared.ListBlocks.{ListBlocks}
-use Rattle.list_blocks.specs.declared.ListBlocks.the-variants as made
-use Rattle.list_blocks.specs.Made as blocking
-use Rattle.list_blocks.specs.Made.{makeTests, holding}
+use Rattle.list_ready.specs.declared.ListBlocks.{ListBlocks}
+use Rattle.list_ready.specs.declared.ListBlocks.the-variants as made
+use Rattle.list_ready.specs.Made as blocking
+use Rattle.list_ready.specs.Made.{makeTests, holding}
 use Rattle.list_layout.specs.Laid as layout
 use Rattle.list_layout.specs.Laid.{builtFrom, laidVerdict, outputBy}
 use Rattle.list_whole.specs.Agree.{room, same-result, same-verdict}
@@ -99,18 +99,6 @@ module _ (g : Input) (s : Scratches) where
 
       facts : (makes ≡ verdict.Accepted) × (count ≡ length (blocks g .offsets)) × (s1 ≡ holding (blocks g) s)
       facts = made-first makes refl e
-
-      long-enough : {A : Type 0} (a b : List A) → length a ≤ length (laid a b)
-      long-enough a b = let l = length-append a (drop (length a) b) in omega arith
-
-      -- the two parts that are read stand in their buffers
-      pub offsets-there : count ≤ length (s1 .blocks)
-      unfolding clearedScratch
-      offsets-there = let l = long-enough (blocks g .offsets) (zeros (s .blocks)) in let c = facts .1 in let q : length (s1 .blocks) ≡ length (laid (blocks g .offsets) (zeros (s .blocks))) = ap (λ s. length (s .blocks)) (facts .2) in omega arith
-
-      pub documents-there : length (g .ids) ≤ length (s1 .order)
-      unfolding clearedScratch
-      documents-there = let l = long-enough (blocks g .documents) (zeros (s .order)) in let c = as-many g in let q : length (s1 .order) ≡ length (laid (blocks g .documents) (zeros (s .order))) = ap (λ s. length (s .order)) (facts .2) in omega arith
 
       order-is : take (length (g .ids)) (s1 .order) ≡ blocks g .documents
       unfolding clearedScratch

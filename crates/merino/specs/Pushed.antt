@@ -2,7 +2,7 @@
 use Prim.Native.Nat.{ℕ}
 use Rattle.kept_list.specs.Lent.{Lent}
 use Rattle.kept_list.specs.Push.{Left}
-use Rattle.merino.specs.Numbers.{verdictNumber}
+use Rattle.search_numbers.specs.Numbers.{verdictNumber}
 
 pub record Crossed : Type 0 where
   pub number : ℕ

@@ -49,7 +49,7 @@ score-within qs ws cs vs s e x h = at (leb e (length cs)) refl h
     at false f h = let z : _≡_ {A = ℕ} 0 1 = cc in omega arith
 
 -- ---- a posting
-pub kept-marked : (k p s : ℕ) (x : Float) (l : Lends) (m : Lent) (v : List ℕ) → m ≡ settled k (scored p x) (l .kept) → v ≡ set (l .visits) s 1 → lends m v ≡ keptFound k p s x l
+kept-marked : (k p s : ℕ) (x : Float) (l : Lends) (m : Lent) (v : List ℕ) → m ≡ settled k (scored p x) (l .kept) → v ≡ set (l .visits) s 1 → lends m v ≡ keptFound k p s x l
 kept-marked k p s x l m v f g = rw (f, g)
 
 module _ (qs : List ℕ) (ws : List Float) (cs : List ℕ) (vs : List Float) (p : ℕ) (u : UnpackedRange) (e : u ≡ unpacked p) where
@@ -80,8 +80,8 @@ module _ (p : ℕ) (u : UnpackedRange) (e : u ≡ unpacked p) where
   pub visited-by : (v : List ℕ) (t : Bool) → t ≡ not (eqb (getD v (u .start .0) 0) 0) → visited v p ≡ t
   visited-by v t h = sym (h ∙ ap (λ (x : UnpackedRange). not (eqb (getD v (x .start .0) 0) 0)) e)
 
-  pub found-by : (k : ℕ) (x : Float) (l m : Lends) → m ≡ keptFound k p (u .start .0) x l → m ≡ keptFound k p (startOf p) x l
-  found-by k x l m h = h ∙ ap (λ (y : UnpackedRange). keptFound k p (y .start .0) x l) e
+  pub found-by : (k : ℕ) (x : Float) (l : Lends) (m : Lent) (v : List ℕ) → m ≡ settled k (scored p x) (l .kept) → v ≡ set (l .visits) (u .start .0) 1 → lends m v ≡ keptFound k p (startOf p) x l
+  found-by k x l m v f g = kept-marked k p (u .start .0) x l m v f g ∙ ap (λ (y : UnpackedRange). keptFound k p (y .start .0) x l) e
 
   pub end-by : u .start .0 ≤ u .end
   end-by = rw e (omega arith)

@@ -11,7 +11,7 @@ use lib.Ieee.{Float, nan}
 use borrow.Author.Tests.{eq-eqb, ne-eqb}
 use Rattle.lists.specs.Lists.{from}
 use Rattle.refusal.specs.declared.Refusal.{Refusal}
-use Rattle.probing.specs.declared.Block.{Block}
+use Rattle.held.specs.declared.Block.{Block}
 use Rattle.probing.specs.declared.Counts.{Counts}
 use Rattle.probing.specs.declared.Turn.{Turn}
 use Rattle.probing.specs.declared.Turn.the-variants.{On, Stopped}
@@ -25,11 +25,6 @@ module _ (k : ℕ) (f x : Float) (n : ℕ) (xs : List Float) where
   pub skips-by : (w : Float) (r b : Bool) → w ≡ worstHeld n xs → r ≡ skipsAt k f x n w → r ≡ b → heldSkips k f x n xs ≡ b
   unfolding heldSkips
   skips-by w r b p q h = ap (skipsAt k f x n) (sym p) ∙ sym q ∙ h
-
--- ---- a block
-pub block-is : (os : List ℕ) (xs : List Float) (b : ℕ) (x : Float) (s e : ℕ) → x ≡ getD xs b nan → s ≡ getD os b 0 → e ≡ getD os (b + 1) 0 → _≡_ {A = Block} (record { score = x; start = s; end = e }) (blockAt os xs b)
-unfolding blockAt
-block-is os xs b x s e p q r = rw (p, q, r)
 
 -- ---- postings, one after another
 module _ (k : ℕ) (read : ℕ → RangeReading) (ps : List ℕ) (i e : ℕ) (c : Counts) (l : Lends) where

@@ -9,7 +9,7 @@ use lib.Dec.{eqb}
 use lib.Ieee.{Float}
 use borrow.Author.Tests.{eq-eqb, eqb-true}
 use Rattle.packing.specs.Packing.{startOf}
-use Rattle.probing.specs.declared.Block.{Block}
+use Rattle.held.specs.declared.Block.{Block}
 use Rattle.probing.specs.declared.Counts.{Counts}
 use Rattle.probing.specs.declared.Turn.{Turn}
 use Rattle.probing.specs.declared.Turn.the-variants.{On, Stopped}

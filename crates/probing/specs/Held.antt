@@ -13,10 +13,12 @@ use Rattle.documents.specs.Checks.{slicesHold}
 use Rattle.kept_list.specs.Entry.{scored}
 use Rattle.kept_list.specs.Lent.{Lent, settled}
 use Rattle.page.specs.Through.{tableOf, sieveOf}
-pub use Rattle.turns.specs.Skips.{worstHeld, skipsAt}
+pub use Rattle.turns.specs.Skips.{skipsAt}
+pub use Rattle.held.specs.Blocks.{worstHeld}
+unfoldable pub use Rattle.held.specs.Blocks.{blockAt}
 use Rattle.probing.specs.declared.Answer.{Answer}
 use Rattle.probing.specs.declared.Answer.the-variants as answer
-use Rattle.probing.specs.declared.Block.{Block}
+use Rattle.held.specs.declared.Block.{Block}
 use Rattle.probing.specs.declared.Counts.{Counts}
 use Rattle.probing.specs.declared.Turn.{Turn}
 use Rattle.probing.specs.declared.Turn.the-variants.{On, Stopped}
@@ -73,9 +75,6 @@ heldTurn k factor read ps b c l =
     cond (heldSkips k factor (b .score) (l .kept .size) (l .kept .scores)) (turned (On (counts (c .evaluated) (c .skipped + 1))) l) (heldProbe k read ps (placesOf ps b) c l)
 
 -- ---- all blocks, in the order given
-unfoldable pub blockAt : List ℕ → List Float → ℕ → Block
-blockAt os xs b = record { score = getD xs b nan; start = getD os b 0; end = getD os (b + 1) 0 }
-
 unfoldable pub heldSweep : ℕ → Float → (ℕ → RangeReading) → List ℕ → List ℕ → List Float → List ℕ → Counts → Lends → Turned
 heldSweep k factor read ps os xs [] c l = turned (On c) l
 heldSweep k factor read ps os xs (b ∷ bs) c l = next (heldTurn k factor read ps (blockAt os xs b) c l) (heldSweep k factor read ps os xs bs)

@@ -8,10 +8,9 @@ ghost use Rattle.refusal.specs.First.{firstOf};
 ghost use Rattle.kept_list.specs.Lent.{lent};
 ghost use Rattle.probing.specs.Ranges.{rangeAt, rangeReading};
 ghost use Rattle.probing.specs.Probed.{terms, lends, left, tests, listed, probed};
-ghost use Rattle.probing.specs.Held.{counts as counted, turned, keptFound, heldEvaluate, heldProbe, worstHeld, heldTurn, blockAt, heldSweep, answerOf, Ready};
+ghost use Rattle.probing.specs.Held.{counts as counted, turned, heldEvaluate, heldProbe, worstHeld, heldTurn, heldSweep, answerOf, Ready};
 ghost use Rattle.probing.specs.Counted.{unvisited};
-use kept_list::Scored;
-use names::BlockNumber;
+use held::Block;
 use names::RangeStart;
 use packing::PackedPosting;
 use page::Reading;
@@ -38,13 +37,6 @@ pub enum RangeReading {
     ReachesPast,
     Breaks,
     Score(f32),
-}
-
-// A block at its turn: its score, and where its postings start and end.
-struct Block {
-    score: f32,
-    start: u64,
-    end: u64,
 }
 
 // The postings evaluated and the blocks skipped so far.
@@ -91,28 +83,6 @@ fn read_range(
         Reading::Breaks => RangeReading::Breaks,
         Reading::Score(x) => RangeReading::Score(x),
     }
-}
-
-// A posting that was scored is kept if it is among the k best, and its start is marked.
-fn keep_found(
-    k: u64,
-    posting: PackedPosting,
-    start: RangeStart,
-    score: f32,
-    length: &mut u64,
-    packed: &mut [u64],
-    scores: &mut [f32],
-    visits: &mut [u8],
-)
-    ensures { λ _. ⌜ lends (lent (now (length .exit)) (now (packed .exit)) (now (scores .exit))) (now (visits .exit))
-        ≡ keptFound k (posting .0) (start .0) score (lends (lent (now (length .entry)) (now (packed .entry)) (now (scores .entry))) (now (visits .entry))) ⌝ }
-{
-    let e = Scored {
-        packed: posting.0,
-        score: score,
-    };
-    kept_list::settle(k, length, packed, scores, e);
-    turns::visit(visits, start);
 }
 
 // One posting: passed over where its start was visited; else its range is read, and a scored one is kept if it is among the k best,
@@ -164,7 +134,7 @@ fn evaluate(
             position: position,
         },
         RangeReading::Score(x) => {
-            keep_found(k, posting, start, x, length, packed, scores, visits);
+            held::keep_found(k, posting, start, x, length, packed, scores, visits);
             Turn::On(Counts {
                 evaluated: counts.evaluated + 1,
                 skipped: counts.skipped,
@@ -288,21 +258,6 @@ fn take_turn(
     )
 }
 
-// What a block's turn needs to know of it.
-fn block_at(offsets: &[u64], dots: &[f32], number: BlockNumber) -> Block
-    ensures { λ r. ⌜ r ≡ blockAt (now (offsets .entry)) (now (dots .entry)) (number .0) ⌝ }
-{
-    let at = number.0 as usize;
-    let score = turns::dot_at(dots, at);
-    let start = turns::offset_at(offsets, at);
-    let end = turns::end_at(offsets, at);
-    Block {
-        score: score,
-        start: start,
-        end: end,
-    }
-}
-
 // So many turns, one after another.
 fn sweep(
     table: &[f32; 32768],
@@ -332,10 +287,10 @@ fn sweep(
         evaluated: 0,
         skipped: 0,
     };
-    let mut worst = turns::worst_kept(*length, scores);
+    let mut worst = held::worst_kept(*length, scores);
     let mut i = 0u64;
     while i < turns {
-        let b = block_at(offsets, dots, turns::number_at(order, i));
+        let b = held::block_at(offsets, dots, order, i);
         let t = take_turn(
             table,
             sieve,
@@ -362,7 +317,7 @@ fn sweep(
                 return Turn::Stopped { reason, position };
             }
         }
-        let next = turns::worst_kept(*length, scores);
+        let next = held::worst_kept(*length, scores);
         worst = next;
         i += 1;
     }

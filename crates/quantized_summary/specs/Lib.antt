@@ -1,6 +1,5 @@
 pub mod Layout
 pub mod WellFormed
-pub mod Counting
 pub mod Scores
 pub mod ReadBack
 pub mod Stays

@@ -1,68 +1,66 @@
 // Packing, blocking, quantizing and pushing, as recorded. Which word is which stands over each function.
-use crate::pools;
 use blocking::BlockingAnswer;
 use names::RangeStart;
 use packing::PackedPosting;
 use packing::PackingAnswer;
 use quantizing::Quantized;
+use recorded::float;
+use recorded::long;
+use recorded::word;
+use recorded::words_of;
 
 // 1, 2: start; 3, 4: end; 5, 6: the packed number.
-pub fn packs(words: &[u32]) -> bool {
-    match PackedPosting::pack(RangeStart(pools::long(words, 1)), pools::long(words, 3)) {
-        PackingAnswer::Packed(p) => p.0 == pools::long(words, 5),
+pub fn packs(w: &[u32]) -> bool {
+    match PackedPosting::pack(RangeStart(long(w, 1)), long(w, 3)) {
+        PackingAnswer::Packed(p) => p.0 == long(w, 5),
         PackingAnswer::Refused(_) => false,
     }
 }
 
-// 1: ids; 2: block size; 3: how many offsets, which follow.
-pub fn blocks(words: &[u32]) -> bool {
+// 1: ids; 2: block size; 3, 4: where the offsets start and end.
+pub fn blocks(w: &[u32]) -> bool {
     let mut offsets = [7u64; 256];
-    let ids = pools::word(words, 1, 0) as u64;
-    let size = pools::word(words, 2, 0) as u64;
-    let count = pools::place(words, 3);
-    match blocking::fixed_size_blocking(ids, size, &mut offsets) {
-        BlockingAnswer::Written(n) => (n == count as u64)
-            & pools::same_longs(words, 4, count, &offsets, 7),
+    let wanted = words_of(w, 3);
+    match blocking::fixed_size_blocking(word(w, 1) as u64, word(w, 2) as u64, &mut offsets) {
+        BlockingAnswer::Written(n) => (n == wanted.len() as u64)
+            & expected::same_longs(&offsets, wanted, 7),
         BlockingAnswer::Refused(_) => false,
     }
 }
 
-// 1: how many values; 2: least; 3: step; 4: where the codes start; the values and the codes follow.
-pub fn quantizes(words: &[u32]) -> bool {
-    let mut floats = [0.0f32; 64];
-    pools::fill_floats(words, 5, 64, &mut floats);
+// 1: least; 2: step; 3, 4, 5: where the values and the codes start and end.
+pub fn quantizes(w: &[u32]) -> bool {
+    let mut floats = [0.0f32; 1024];
+    recorded::fill_floats(w, &mut floats);
     let mut codes = [9u8; 64];
-    let count = pools::place(words, 1);
-    let answer = quantizing::quantize(pools::part_floats(&floats, 0, count), &mut codes);
-    let from = pools::place(words, 4);
-    match answer {
+    match quantizing::quantize(recorded::floats_of(w, 3, &floats), &mut codes) {
         Quantized::Summary { least, step } => {
-            (float32::key(least) == pools::word(words, 2, 0))
-                & (float32::key(step) == pools::word(words, 3, 0))
-                & pools::same_bytes(words, from, count, &codes, 9)
+            (float32::key(least) == word(w, 1))
+                & (float32::key(step) == word(w, 2))
+                & expected::same_bytes(&codes, words_of(w, 4), 9)
         }
         Quantized::Refused(_) => false,
     }
 }
 
-// 1: k; 2: length; 3: the new packed number; 4: the new score; 5: the length afterwards; from 6 on eight places each: packed numbers,
-// scores, and both afterwards.
-pub fn pushes(words: &[u32]) -> bool {
+// 1: k; 2: length; 3: the new packed number; 4: the new score; 5: the length afterwards; from 6 on where the slices start: packed
+// numbers, scores, and both afterwards.
+pub fn pushes(w: &[u32]) -> bool {
     let mut packed = [0u64; 8];
     let mut scores = [0.0f32; 8];
-    pools::fill_longs(words, 6, 8, &mut packed);
-    pools::fill_floats(words, 14, 8, &mut scores);
-    let mut length = pools::word(words, 2, 0) as u64;
+    recorded::fill_longs(words_of(w, 6), &mut packed);
+    recorded::fill_floats(words_of(w, 7), &mut scores);
+    let mut length = word(w, 2) as u64;
     let number = merino::merino_push(
-        pools::word(words, 1, 0) as u64,
+        word(w, 1) as u64,
         &mut length,
         &mut packed,
         &mut scores,
-        pools::word(words, 3, 0) as u64,
-        pools::float(words, 4),
+        word(w, 3) as u64,
+        float(w, 4),
     );
     (number == 0)
-        & (length == pools::word(words, 5, 0) as u64)
-        & pools::same_longs(words, 22, 8, &packed, 0)
-        & pools::same_floats(words, 30, 8, &scores, 0)
+        & (length == word(w, 5) as u64)
+        & expected::same_longs(&packed, words_of(w, 8), 0)
+        & expected::same_floats(&scores, words_of(w, 9), 0x8000_0000)
 }

@@ -1,7 +1,6 @@
 // Replays a sample of the original's answers against the proved functions. The sample is the file `cases`; docs/DIFFERENCES.md says how
 // it was made. A case is a row of words; the first one says of what kind it is.
 mod leaves;
-mod pools;
 mod record;
 mod searching;
 
@@ -13,6 +12,7 @@ fn agrees(kind: u32, words: &[u32]) -> bool {
         3 => leaves::quantizes(words),
         4 => leaves::pushes(words),
         5 => searching::searches(words),
+        6 => replay_build::builds_agree(words),
         _ => false,
     }
 }
@@ -46,6 +46,7 @@ fn report(cases: &[u64; 8], wrong: u64) {
     say(b" summaries quantized\n", cases[3]);
     say(b" entries pushed\n", cases[4]);
     say(b" lists searched\n", cases[5]);
+    say(b" lists built\n", cases[6]);
     say(b" answers differ from the original's\n", wrong);
 }
 

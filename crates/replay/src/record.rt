@@ -1,13 +1,19 @@
 // A case as it lies in the file: two bytes for the number of bytes that follow, and in these the words: a byte below 252 is the word
 // itself, 252 stands before a word of two bytes and 253 before one of four, the low byte first.
-use crate::pools;
 ghost use Prim.Native.Nat.{_<_, _≤_};
+
+// A byte as a word.
+fn wide(x: u8) -> u32
+    ensures { λ r. ⌜ r < 256 ⌝ }
+{
+    x as u32
+}
 
 // A byte of a record, and 0 past its end.
 fn byte_at(bytes: &[u8; 4096], at: usize) -> u32
     ensures { λ r. ⌜ r < 256 ⌝ }
 {
-    if at < 4096 { pools::wide(bytes[at]) } else { 0 }
+    if at < 4096 { wide(bytes[at]) } else { 0 }
 }
 
 // A word of a record, and in how many bytes it stands.
@@ -71,7 +77,7 @@ pub fn next(fd: i32, words: &mut [u32]) -> usize {
     if !read(fd, 2, &mut head) {
         return 0;
     }
-    let n = (pools::wide(head[0]) + 256 * pools::wide(head[1])) as usize;
+    let n = (wide(head[0]) + 256 * wide(head[1])) as usize;
     if n > 4096 {
         return 0;
     }

@@ -1,30 +1,12 @@
 // Searching, as recorded. The words of a case: 1: by score; 2: k; 3: the factor; 4: how many are kept; 5: how many afterwards;
-// 6: evaluated; 7: skipped; 9 to 21: where each of the twelve slices that are read starts, and where the last one ends; then where the
-// buffers stand that are written, before and after, and how many words each has.
-use crate::pools;
-use crate::pools::place;
-
-const KEPT: usize = 22;
-
-const SCORES: usize = 23;
-
-const VISITS: usize = 24;
-
-const STARTS: usize = 25;
-
-const KEPT_AFTER: usize = 26;
-
-const SCORES_AFTER: usize = 27;
-
-const VISITS_AFTER: usize = 28;
-
-const DOTS: usize = 29;
-
-const BLOCKS: usize = 30;
-
-const ORDER: usize = 31;
-
-const TURNS: usize = 32;
+// 6: evaluated; 7: skipped; from 8 on where the slices start: the twelve that are read, the kept packed numbers, scores and visits before,
+// and afterwards these three, the dots and the order.
+use recorded::bytes_of;
+use recorded::floats_of;
+use recorded::longs_of;
+use recorded::shorts_of;
+use recorded::word;
+use recorded::words_of;
 
 // Whether the buffers that are written hold what was recorded, and past it what they held before.
 fn holds(
@@ -35,11 +17,11 @@ fn holds(
     dots: &[f32],
     order: &[u64],
 ) -> bool {
-    pools::same_longs(w, place(w, KEPT_AFTER), 8, packed, 0)
-        & pools::same_floats(w, place(w, SCORES_AFTER), 8, scores, 0)
-        & pools::same_bytes(w, place(w, VISITS_AFTER), place(w, STARTS), visits, 0)
-        & pools::same_floats(w, place(w, DOTS), place(w, BLOCKS), dots, 0x8000_0000)
-        & pools::same_longs(w, place(w, ORDER), place(w, TURNS), order, 0)
+    expected::same_longs(packed, words_of(w, 23), 0)
+        & expected::same_floats(scores, words_of(w, 24), 0x8000_0000)
+        & expected::same_bytes(visits, words_of(w, 25), 0)
+        & expected::same_floats(dots, words_of(w, 26), 0x8000_0000)
+        & expected::same_longs(order, words_of(w, 27), 0)
 }
 
 // The search itself, over the words as numbers of each kind: whether it is accepted and counts as recorded.
@@ -55,26 +37,26 @@ fn probes(
     dots: &mut [f32],
     order: &mut [u64],
 ) -> bool {
-    let mut length = pools::word(w, 4, 0) as u64;
+    let mut length = word(w, 4) as u64;
     let mut position = 0;
     let mut evaluated = 0;
     let mut skipped = 0;
     let number = merino::merino_search(
-        pools::word(w, 1, 0) as u64,
-        pools::part(w, place(w, 9), place(w, 10)),
-        pools::part_floats(floats, place(w, 10), place(w, 11)),
-        pools::word(w, 2, 0) as u64,
-        pools::float(w, 3),
-        pools::part(w, place(w, 11), place(w, 12)),
-        pools::part_floats(floats, place(w, 12), place(w, 13)),
-        pools::part_longs(longs, place(w, 13), place(w, 14)),
-        pools::part_longs(longs, place(w, 14), place(w, 15)),
-        pools::part(w, place(w, 15), place(w, 16)),
-        pools::part_longs(longs, place(w, 16), place(w, 17)),
-        pools::part_shorts(shorts, place(w, 17), place(w, 18)),
-        pools::part_bytes(bytes, place(w, 18), place(w, 19)),
-        pools::part_floats(floats, place(w, 19), place(w, 20)),
-        pools::part_floats(floats, place(w, 20), place(w, 21)),
+        word(w, 1) as u64,
+        words_of(w, 8),
+        floats_of(w, 9, floats),
+        word(w, 2) as u64,
+        recorded::float(w, 3),
+        words_of(w, 10),
+        floats_of(w, 11, floats),
+        longs_of(w, 12, longs),
+        longs_of(w, 13, longs),
+        words_of(w, 14),
+        longs_of(w, 15, longs),
+        shorts_of(w, 16, shorts),
+        bytes_of(w, 17, bytes),
+        floats_of(w, 18, floats),
+        floats_of(w, 19, floats),
         &mut length,
         packed,
         scores,
@@ -85,10 +67,10 @@ fn probes(
         &mut evaluated,
         &mut skipped,
     );
-    let kept = length == pools::word(w, 5, 0) as u64;
-    let counts = (evaluated == pools::word(w, 6, 0) as u64)
-        & (skipped == pools::word(w, 7, 0) as u64);
-    (number == 0) & kept & counts
+    (number == 0)
+        & (length == word(w, 5) as u64)
+        & (evaluated == word(w, 6) as u64)
+        & (skipped == word(w, 7) as u64)
 }
 
 // The search with its buffers, before and after.
@@ -98,9 +80,9 @@ fn searches_in(w: &[u32], longs: &[u64], floats: &[f32], shorts: &[u16], bytes: 
     let mut visits = [0u8; 256];
     let mut dots = [0.0f32; 32];
     let mut order = [0u64; 32];
-    pools::fill_longs(w, place(w, KEPT), 8, &mut packed);
-    pools::fill_floats(w, place(w, SCORES), 8, &mut scores);
-    pools::fill_bytes(w, place(w, VISITS), place(w, STARTS), &mut visits);
+    recorded::fill_longs(words_of(w, 20), &mut packed);
+    recorded::fill_floats(words_of(w, 21), &mut scores);
+    recorded::fill_bytes(words_of(w, 22), &mut visits);
     let accepted = probes(
         w,
         longs,
@@ -122,9 +104,9 @@ pub fn searches(w: &[u32]) -> bool {
     let mut floats = [0.0f32; 1024];
     let mut shorts = [0u16; 1024];
     let mut bytes = [0u8; 1024];
-    pools::fill_longs(w, 0, 1024, &mut longs);
-    pools::fill_floats(w, 0, 1024, &mut floats);
-    pools::fill_shorts(w, 0, 1024, &mut shorts);
-    pools::fill_bytes(w, 0, 1024, &mut bytes);
+    recorded::fill_longs(w, &mut longs);
+    recorded::fill_floats(w, &mut floats);
+    recorded::fill_shorts(w, &mut shorts);
+    recorded::fill_bytes(w, &mut bytes);
     searches_in(w, &longs, &floats, &shorts, &bytes)
 }

@@ -1,6 +1,7 @@
 -- What the walks of this crate share. Assumes nothing.
 use Prim.Native.Nat.{ℕ, _*_, _<_, _^_}
-use mathlib.Core.Bool.{Bool, not}
+use mathlib.Core.Path.{_≡_, refl}
+use mathlib.Core.Bool.{Bool, true, false, not}
 use mathlib.Core.List.{List}
 use native.Mathlib.Omega.{arith}
 use lib.Dec.{T}
@@ -16,6 +17,19 @@ use types.Run.{Opd, first, branches, skips}
 -- an entry takes 16 bytes, so where it lies is a number of bytes that fits
 pub stride-fits : (n i : ℕ) → n * 16 < 2 ^ 63 → i < n → i * 16 < 2 ^ 64
 stride-fits n i h l = omega arith
+
+-- a test by its value
+pub is-true : (t : Bool) → T t → t ≡ true
+is-true true _ = refl
+is-true false a = absurd a
+
+pub is-false : (t : Bool) → T (not t) → t ≡ false
+is-false true a = absurd a
+is-false false _ = refl
+
+pub not-not : (t : Bool) → T (not (not t)) → t ≡ true
+not-not true _ = refl
+not-not false a = absurd a
 
 -- a test that returns where it holds: the first arm returns, and what follows the test runs where it fails
 module _ {M : Type 1} {𝓤 : URA M} {H : Heap 𝓤} {A : Atoms 𝓤} {K : Type 0} {W : Given 𝓤 H A} {Γ : List (Item 𝓤)} {E : Env 𝓤 H} {C : Calls 𝓤 H} {Λ : Loops 𝓤 H} {q : Kit.Post 𝓤 H} where

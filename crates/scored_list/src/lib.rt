@@ -1,13 +1,18 @@
 // The kept list as a lent slice of scored entries.
 use kept_list::Scored;
+use refusal::Refusal;
+use refusal::Verdict;
 ghost use mathlib.Core.Path.{_≡_};
-ghost use mathlib.Core.Bool.{_&&_};
-ghost use Prim.Native.Nat.{_<_, _-_, _+_, min};
-ghost use lib.Dec.{ltb};
+ghost use mathlib.Core.Bool.{_&&_, _||_, not};
+ghost use Prim.Native.Nat.{_<_, _-_, _+_, suc, min};
+ghost use lib.Dec.{ltb, leb, eqb};
+ghost use lib.Ieee.{eq};
 ghost use lib.ListN.{length as len, getD};
 ghost use Rattle.kept_list.specs.Entry.{better};
 ghost use Rattle.kept_list.specs.Lent.{inserted, settled};
+ghost use Rattle.kept_list.specs.Push.{wellKept, left, pushed};
 ghost use Rattle.scored_list.specs.Entries.{noEntry, asLent, goesIn};
+ghost use Rattle.scored_list.specs.Answers.{verdictBy, isRefused, answerOf, verdictIn, lengthIn};
 
 // What is read where there is no entry: a NaN, which no kept list has.
 fn no_entry() -> Scored
@@ -104,4 +109,133 @@ pub fn settle(k: u64, length: u64, entries: &mut [Scored], e: Scored) -> u64
     let at = place_of(k, length);
     insert(entries, at, e);
     (at + 1) as u64
+}
+
+// Whether so many entries are no more than k and than their slice holds.
+fn is_held(k: u64, length: u64, room: usize) -> bool
+    ensures { λ r. ⌜ r ≡ (leb length k && leb length room) ⌝ }
+{
+    let n = length as usize;
+    (length <= k) & (n <= room)
+}
+
+// Whether a list may begin with an entry: there is none in it, or its score is no NaN.
+fn begins(length: u64, first: Scored) -> bool
+    ensures { λ r. ⌜ r ≡ (eqb length 0 || eq (first .score) (first .score)) ⌝ }
+{
+    let x = first.score;
+    (length == 0) | (x == x)
+}
+
+// Whether those so far stand best first, and the next one may stand right behind the last of them.
+fn follows(ok: bool, above: Scored, e: Scored) -> bool
+    ensures { λ r. ⌜ r ≡ (ok && not (better e above)) ⌝ }
+{
+    ok & !e.better(above)
+}
+
+// Whether refusal 12 finds no fault with a kept list: at most k entries, no more than the slice holds, best first, no NaN.
+pub fn is_well_kept(k: u64, length: u64, entries: &[Scored]) -> bool
+    ensures { λ r. ⌜ r ≡ wellKept k (asLent length (now (entries .entry))) ⌝ }
+{
+    if !is_held(k, length, entries.len()) {
+        return false;
+    }
+    let mut above = entry(entries, 0);
+    let mut ok = begins(length, above);
+    let mut i = 1;
+    loop {
+        if (length as usize) <= i {
+            return ok;
+        }
+        let e = entry(entries, i);
+        ok = follows(ok, above, e);
+        above = e;
+        i = i + 1;
+    }
+}
+
+// What a push answers: how many entries are kept after it, or why it is refused.
+pub enum Pushed {
+    Kept(u64),
+    Refused(Refusal),
+}
+
+// How many entries there are after a push.
+fn after_push(k: u64, length: u64) -> u64
+    ensures { λ r. ⌜ r ≡ min (suc length) k ⌝ }
+{
+    if length < k { length + 1 } else { k }
+}
+
+// The verdict on a push onto so many entries in a slice with so much room, of which it is known whether they are well kept.
+fn admit(k: u64, length: u64, room: usize, sound: bool, e: Scored) -> Verdict
+    ensures { λ r. ⌜ r ≡ verdictBy k length room sound e ⌝ }
+{
+    if k == 0 {
+        return Verdict::Refused(Refusal::NothingToKeep);
+    }
+    let x = e.score;
+    if !(sound & (x == x)) {
+        return Verdict::Refused(Refusal::WrongKeptList);
+    }
+    let need = after_push(k, length) as usize;
+    if room < need {
+        return Verdict::Refused(Refusal::BufferTooShort);
+    }
+    Verdict::Accepted
+}
+
+// Whether a verdict is a refusal.
+fn is_refused(verdict: Verdict) -> bool
+    ensures { λ r. ⌜ r ≡ isRefused verdict ⌝ }
+{
+    match verdict {
+        Verdict::Accepted => false,
+        Verdict::Refused(_) => true,
+    }
+}
+
+// The answer that goes with a verdict, where an accepted push leaves so many entries.
+fn answer(verdict: Verdict, length: u64) -> Pushed
+    ensures { λ r. ⌜ r ≡ answerOf verdict length ⌝ }
+{
+    match verdict {
+        Verdict::Accepted => Pushed::Kept(length),
+        Verdict::Refused(reason) => Pushed::Refused(reason),
+    }
+}
+
+// A push onto the first `length` entries. Refused with 11 where k is 0; with 12 where the kept entries number more than k or than
+// the slice holds, are out of order, or they or the pushed score hold a NaN; with 4 where the slice has no place for the result.
+// A refused push changes nothing.
+pub fn push(k: u64, length: u64, entries: &mut [Scored], e: Scored) -> Pushed
+    ensures { λ r. ⌜ left (verdictIn r) (asLent (lengthIn length r) (now (entries .exit))) ≡ pushed k e (asLent length (now (entries .entry))) ⌝ }
+{
+    let room = entries.len();
+    let sound = is_well_kept(k, length, entries);
+    let verdict = admit(k, length, room, sound, e);
+    if is_refused(verdict) {
+        return answer(verdict, length);
+    }
+    let kept = settle(k, length, entries, e);
+    answer(verdict, kept)
+}
+
+// What a push onto an array of entries leaves: its answer, and the entries.
+pub struct Few {
+    pub answer: Pushed,
+    pub entries: [Scored; 16],
+}
+
+// A push onto the first `length` of sixteen entries that are held by value, as `push`: for callers that have no slice of entries to lend.
+pub fn push_few(k: u64, length: u64, entries: [Scored; 16], e: Scored) -> Few
+    ensures { λ r. ⌜ left (verdictIn (r .answer)) (asLent (lengthIn length (r .answer)) (r .entries)) ≡ pushed k e (asLent length entries) ⌝ }
+{
+    let mut list = entries;
+    let answer = push(k, length, &mut list, e);
+    Few {
+        answer,
+        entries: list,
+    }
 }

@@ -82,7 +82,7 @@ fn admit(
         (lends (lent length (now (packed .entry)) (now (scores .entry))) (now (visits .entry))) room) ⌝ }
 {
     let query = document_checks::slices_hold(asked, weights);
-    let list = quantized_summary::is_well_formed(
+    let list = list_checks::is_well_formed(
         postings.len() as u64,
         blocks,
         present,
@@ -92,7 +92,7 @@ fn admit(
         minimums,
         steps,
     );
-    let kept = kept_list::is_well_kept(k, length, packed, scores);
+    let kept = pushing::is_well_kept(k, length, packed, scores);
     let roomy = has_room(k, packed, scores, components.len(), visits.len(), room);
     judge(
         k == 0,

@@ -1,14 +1,8 @@
--- The worst kept score, and when a block is skipped. Document 01, "Search".
-use Prim.Native.Nat.{ℕ, _-_}
-use mathlib.Core.Bool.{Bool, _&&_, cond}
-use mathlib.Core.List.{List}
-use lib.ListN.{getD}
+-- When a block is skipped. Document 01, "Search".
+use Prim.Native.Nat.{ℕ}
+use mathlib.Core.Bool.{Bool, _&&_}
 use lib.Dec.{eqb}
-use lib.Ieee.{Float, nan, binary32, lt, mul}
-
--- the last of n kept scores; a NaN where nothing is kept
-abbrev pub worstHeld : ℕ → List Float → Float
-worstHeld n xs = cond (eqb n 0) nan (getD xs (n - 1) nan)
+use lib.Ieee.{Float, binary32, lt, mul}
 
 -- k are kept, and the score is below the factor times the worst kept score
 abbrev pub skipsAt : ℕ → Float → Float → ℕ → Float → Bool

@@ -119,7 +119,7 @@ fn quantize(asked: &[u8], values: &[f32], codes: &mut [u8]) {
 fn push(length: &mut u64, packed: &mut [u64], scores: &mut [f32], score: f32, start: u64) {
     if let PackingAnswer::Packed(p) = PackedPosting::pack(RangeStart(start), start) {
         let e = Scored::new(p.0, score);
-        if let Verdict::Refused(reason) = kept_list::push(2, length, packed, scores, e) {
+        if let Verdict::Refused(reason) = pushing::push(2, length, packed, scores, e) {
             say_refusal(reason);
         }
     }

@@ -6,7 +6,7 @@ use crate::model_build::*;
 use crate::ours;
 use crate::slips::Slip;
 
-fn same_list(a: &List, b: &original::List) -> bool {
+pub fn same_list(a: &List, b: &original::List) -> bool {
     a.packed == b.packed
         && a.block_offsets == b.block_offsets
         && a.components == b.components

@@ -30,26 +30,47 @@ returns-4 c =
     let a = c .before .before .before .before .before .args in
     not-full (a .k) (a .e) (a .length) (a .packed .now) (a .scores .now) (c .before .if2 .left) (c .if4 .taken)
 
-entry-requires : tie.Need-entry-requires
-entry-requires c κs =
+mul-new : tie.Need-mul-new
+mul-new c =
     let a = c .before .before .before .before .before .args in
     let r = full (a .k) (a .length) (a .packed .now) (a .scores .now) (c .before .if2 .left) (c .if4 .left) in
     search needs
 
+shared-slice-read-new : tie.Need-shared-slice-read-new
+shared-slice-read-new c =
+    let a = c .before .before .before .before .before .before .args in
+    let r = full (a .k) (a .length) (a .packed .now) (a .scores .now) (c .before .before .if2 .left) (c .before .if4 .left) in
+    search needs
+
+mul-new-2 : tie.Need-mul-new-2
+mul-new-2 c =
+    let a = c .before .before .before .before .before .before .args in
+    let r = full (a .k) (a .length) (a .packed .now) (a .scores .now) (c .before .before .if2 .left) (c .before .if4 .left) in
+    search needs
+
+shared-slice-read-new-2 : tie.Need-shared-slice-read-new-2
+shared-slice-read-new-2 c =
+    let a = c .before .before .before .before .before .before .before .args in
+    let r = full (a .k) (a .length) (a .packed .now) (a .scores .now) (c .before .before .before .if2 .left) (c .before .before .if4 .left) in
+    search needs
+
+new-requires : tie.Need-new-requires
+new-requires c κs = tt
+
 better-requires : tie.Need-better-requires
-better-requires c κs = search needs
+better-requires c κs = tt
 
 returns-5 : tie.Need-returns-5
 returns-5 c =
-    let a = c .before .before .before .before .before .before .before .before .args in
-    let r = full (a .k) (a .length) (a .packed .now) (a .scores .now) (c .before .before .before .before .if2 .left) (c .before .before .before .if4 .left) in
-    at-k-replaces (a .k) (a .e) (a .length) (a .packed .now) (a .scores .now) (a .k - 1) (omega (arith, c .before .before .before .before .before .if1 .left)) r _ (c .before .before .entry .ensures) (sym (c .before .better .ensures) ∙ c .if5 .taken)
+    let a = c .before .before .before .before .before .before .before .before .before .before .args in
+    let r = full (a .k) (a .length) (a .packed .now) (a .scores .now) (c .before .before .before .before .before .before .if2 .left) (c .before .before .before .before .before .if4 .left) in
+    at-k-replaces (a .k) (a .e) (a .length) (a .packed .now) (a .scores .now) (a .k - 1) (omega (arith, c .before .before .before .before .before .before .before .if1 .left)) r _ (c .before .before .new .ensures) (sym (c .before .better .ensures) ∙ c .if5 .taken)
 
 returns-6 : tie.Need-returns-6
 returns-6 c =
-    let a = c .before .before .before .before .before .before .before .before .args in
-    let r = full (a .k) (a .length) (a .packed .now) (a .scores .now) (c .before .before .before .before .if2 .left) (c .before .before .before .if4 .left) in
-    at-k-stays (a .k) (a .e) (a .length) (a .packed .now) (a .scores .now) (a .k - 1) (omega (arith, c .before .before .before .before .before .if1 .left)) r _ (c .before .before .entry .ensures) (sym (c .before .better .ensures) ∙ c .if5 .left)
+    let a = c .before .before .before .before .before .before .before .before .before .before .args in
+    let r = full (a .k) (a .length) (a .packed .now) (a .scores .now) (c .before .before .before .before .before .before .if2 .left) (c .before .before .before .before .before .if4 .left) in
+    at-k-stays (a .k) (a .e) (a .length) (a .packed .now) (a .scores .now) (a .k - 1) (omega (arith, c .before .before .before .before .before .before .before .if1 .left)) r _ (c .before .before .new .ensures) (sym (c .before .better .ensures) ∙ c .if5 .left)
 
 pub find-place-spec : {M : Type 1} → statement M
 find-place-spec =
@@ -60,7 +81,11 @@ find-place-spec =
     returns-2
     returns-3
     returns-4
-    entry-requires
+    mul-new
+    shared-slice-read-new
+    mul-new-2
+    shared-slice-read-new-2
+    new-requires
     better-requires
     returns-5
     returns-6)

@@ -3,7 +3,7 @@ use mathlib.Core.Path.{ap}
 use Rattle.documents.specs.Documents.{documents}
 use Rattle.layout.specs.Keys.{lent}
 use Rattle.block_entries.specs.Filling.{filling}
-use Rattle.list_layout.proofs.Laws.{cut-count, front-long, front-count}
+use Rattle.list_sizes.specs.Fronts.{cut-count, front-long, front-count}
 use Rattle.list_layout.proofs.Placed.{placed}
 use borrow.Author.Needs.{needs}
 use Rattle.list_layout.proofs.place.Statement.{statement}

@@ -9,7 +9,7 @@ use Rattle.probing.proofs.admit.Statement.{statement}
 use Rattle.probing.proofs.admit.Tie as tie
 
 slices-hold-requires : tie.Need-slices-hold-requires
-slices-hold-requires c κs = search needs
+slices-hold-requires c κs = tt
 
 returns : tie.Need-returns
 returns c = let a = c .before .before .before .before .before .before .before .before .before .args in refused-10 (a .k) (terms (a .asked .now) (a .weights .now) (a .components .now) (a .values .now)) (lends (lent (a .length) (a .packed .now) (a .scores .now)) (a .visits .now)) (sym (c .before .slices-hold .ensures) ∙ not-true _ (c .if1 .taken))

@@ -13,10 +13,10 @@ use Rattle.probing.proofs.evaluate.Statement.{statement}
 use Rattle.probing.proofs.evaluate.Tie as tie
 
 unpack-requires : tie.Need-unpack-requires
-unpack-requires c κs = search needs
+unpack-requires c κs = tt
 
 is-visited-requires : tie.Need-is-visited-requires
-is-visited-requires c κs = search needs
+is-visited-requires c κs = tt
 
 same-length : tie.Need-same-length
 same-length c = search needs
@@ -37,7 +37,7 @@ enum-known-r : tie.Need-enum-known-r
 enum-known-r c = search needs
 
 keep-found-requires : tie.Need-keep-found-requires
-keep-found-requires c κs = search needs
+keep-found-requires c κs = tt
 
 add-t33 : tie.Need-add-t33
 add-t33 c = let a = c .before .before .before .before .before .before .before .before .before .before .before .before .before .before .before .before .before .before .before .before .before .before .before .before .before .before .before .before .args in omega (arith, one-more (a .posting .0) (c .before .before .before .before .before .before .before .before .before .before .before .before .before .before .before .before .before .before .before .before .unpack .result) (c .before .before .before .before .before .before .before .before .before .before .before .before .before .before .before .before .before .before .before .before .unpack .ensures) (a .table .now) (a .sieve .now) (a .asked .now) (a .weights .now) (a .components .now) (a .values .now) (a .visits .now) (a .counts .evaluated) (c .before .before .before .before .before .before .before .before .before .before .before .before .before .r .given .0 .0) (c .before .before .before .before .before .before .before .before .before .before .before .before .before .before .before .before .before .before .before .before .before .before .before .before .before .before .before .before .pre .0) (sym (c .before .before .before .before .before .before .before .before .before .before .before .before .before .before .before .before .if1 .left) ∙ c .before .before .before .before .before .before .before .before .before .before .before .before .before .before .before .before .before .is-visited .ensures) (sym (c .before .before .before .before .before .before .before .before .before .before .before .before .before .r .given .1) ∙ c .before .before .before .before .before .before .before .before .before .before .before .before .before .before .before .read-range .ensures) (c .before .before .before .before .before .before .before .before .before .before .before .before .before .before .before .before .before .before .before .before .before .before .before .before .before .before .before .before .pre .1), c .before .before .before .before .before .before .before .before .before .before .before .before .before .before .before .before .before .before .before .before .before .before .before .before .before .before .before .before .good .1 .1 .1 .1 .1 .1 .1 .1 .1 .1 .1 .1 .0 .0)
@@ -64,7 +64,7 @@ same-length-6 : tie.Need-same-length-6
 same-length-6 c = search needs
 
 returns-4 : tie.Need-returns-4
-returns-4 c = let a = c .before .before .before .before .before .before .before .before .before .before .before .before .before .before .before .before .before .before .before .before .before .before .before .before .before .before .before .before .args in eval-found (a .k) (rangeReading (a .asked .now) (a .weights .now) (a .components .now) (a .values .now)) (a .posting .0) (a .position) (a .counts) (lends (lent (a .length .now) (a .packed .now) (a .scores .now)) (a .visits .now)) (visited-by (a .posting .0) (c .before .before .before .before .before .before .before .before .before .before .before .before .before .before .before .before .before .before .before .before .unpack .result) (c .before .before .before .before .before .before .before .before .before .before .before .before .before .before .before .before .before .before .before .before .unpack .ensures) (a .visits .now) (c .before .before .before .before .before .before .before .before .before .before .before .before .before .before .before .before .before .is-visited .result) (c .before .before .before .before .before .before .before .before .before .before .before .before .before .before .before .before .before .is-visited .ensures) ∙ c .before .before .before .before .before .before .before .before .before .before .before .before .before .before .before .before .if1 .left) (c .before .before .before .before .before .before .before .before .before .before .before .before .before .r .given .0 .0) (reading-of (a .asked .now) (a .weights .now) (a .components .now) (a .values .now) (a .posting .0) (c .before .before .before .before .before .before .before .before .before .before .before .before .before .before .before .before .before .before .before .before .unpack .result) (c .before .before .before .before .before .before .before .before .before .before .before .before .before .before .before .before .before .before .before .before .unpack .ensures) (c .before .before .before .before .before .before .before .before .before .before .before .before .before .before .before .read-range .result) (c .before .before .before .before .before .before .before .before .before .before .before .before .before .before .before .read-range .ensures) ∙ c .before .before .before .before .before .before .before .before .before .before .before .before .before .r .given .1) _ (found-by (a .posting .0) (c .before .before .before .before .before .before .before .before .before .before .before .before .before .before .before .before .before .before .before .before .unpack .result) (c .before .before .before .before .before .before .before .before .before .before .before .before .before .before .before .before .before .before .before .before .unpack .ensures) (a .k) (c .before .before .before .before .before .before .before .before .before .before .before .before .before .r .given .0 .0) (lends (lent (a .length .now) (a .packed .now) (a .scores .now)) (a .visits .now)) _ (c .before .before .before .before .before .before .before .keep-found .ensures))
+returns-4 c = let a = c .before .before .before .before .before .before .before .before .before .before .before .before .before .before .before .before .before .before .before .before .before .before .before .before .before .before .before .before .args in eval-found (a .k) (rangeReading (a .asked .now) (a .weights .now) (a .components .now) (a .values .now)) (a .posting .0) (a .position) (a .counts) (lends (lent (a .length .now) (a .packed .now) (a .scores .now)) (a .visits .now)) (visited-by (a .posting .0) (c .before .before .before .before .before .before .before .before .before .before .before .before .before .before .before .before .before .before .before .before .unpack .result) (c .before .before .before .before .before .before .before .before .before .before .before .before .before .before .before .before .before .before .before .before .unpack .ensures) (a .visits .now) (c .before .before .before .before .before .before .before .before .before .before .before .before .before .before .before .before .before .is-visited .result) (c .before .before .before .before .before .before .before .before .before .before .before .before .before .before .before .before .before .is-visited .ensures) ∙ c .before .before .before .before .before .before .before .before .before .before .before .before .before .before .before .before .if1 .left) (c .before .before .before .before .before .before .before .before .before .before .before .before .before .r .given .0 .0) (reading-of (a .asked .now) (a .weights .now) (a .components .now) (a .values .now) (a .posting .0) (c .before .before .before .before .before .before .before .before .before .before .before .before .before .before .before .before .before .before .before .before .unpack .result) (c .before .before .before .before .before .before .before .before .before .before .before .before .before .before .before .before .before .before .before .before .unpack .ensures) (c .before .before .before .before .before .before .before .before .before .before .before .before .before .before .before .read-range .result) (c .before .before .before .before .before .before .before .before .before .before .before .before .before .before .before .read-range .ensures) ∙ c .before .before .before .before .before .before .before .before .before .before .before .before .before .r .given .1) _ (found-by (a .posting .0) (c .before .before .before .before .before .before .before .before .before .before .before .before .before .before .before .before .before .before .before .before .unpack .result) (c .before .before .before .before .before .before .before .before .before .before .before .before .before .before .before .before .before .before .before .before .unpack .ensures) (a .k) (c .before .before .before .before .before .before .before .before .before .before .before .before .before .r .given .0 .0) (lends (lent (a .length .now) (a .packed .now) (a .scores .now)) (a .visits .now)) _ _ (c .before .before .before .before .before .before .before .keep-found .ensures .0) (c .before .before .before .before .before .before .before .keep-found .ensures .1))
 
 pub evaluate-spec : {M : Type 1} → statement M
 evaluate-spec =

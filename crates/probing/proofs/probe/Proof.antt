@@ -8,7 +8,7 @@ use Rattle.probing.proofs.probe.Statement.{statement}
 use Rattle.probing.proofs.probe.Tie as tie
 
 admit-requires : tie.Need-admit-requires
-admit-requires c κs = search needs
+admit-requires c κs = tt
 
 enum-known-verdict : tie.Need-enum-known-verdict
 enum-known-verdict c = search needs
@@ -32,10 +32,10 @@ add-bytes : tie.Need-add-bytes
 add-bytes c = search needs
 
 lay-requires : tie.Need-lay-requires
-lay-requires c κs = search needs
+lay-requires c κs = tt
 
 sieve-of-requires : tie.Need-sieve-of-requires
-sieve-of-requires c κs = search needs
+sieve-of-requires c κs = tt
 
 slice-relend-prefix-sweep : tie.Need-slice-relend-prefix-sweep
 slice-relend-prefix-sweep c = let a = c .before .before .before .before .before .before .before .before .before .before .before .before .before .before .before .before .before .before .before .before .before .before .before .before .before .before .args in one-more-byte (length (a .components .now)) (length (a .visits .now)) (bytes-are (a .k) (terms (a .asked .now) (a .weights .now) (a .components .now) (a .values .now)) (lends (lent (a .length .now) (a .packed .now) (a .scores .now)) (a .visits .now)) (c .before .before .before .before .before .before .before .before .before .before .admit .result) (c .before .before .before .before .before .before .before .before .before .before .admit .ensures) (c .before .before .before .before .before .before .before .before .enum-told .given .1))
@@ -47,7 +47,7 @@ sweep-requires : tie.Need-sweep-requires
 sweep-requires c κs = let a = c .before .before .before .before .before .before .before .before .before .before .before .before .before .before .before .before .before .before .before .before .before .before .before .before .before .before .before .args in ready-of (a .k) (terms (a .asked .now) (a .weights .now) (a .components .now) (a .values .now)) (lends (lent (a .length .now) (a .packed .now) (a .scores .now)) (a .visits .now)) (c .before .before .before .before .before .before .before .before .before .before .before .admit .result) (c .before .before .before .before .before .before .before .before .before .before .before .admit .ensures) (c .before .before .before .before .before .before .before .before .before .enum-told .given .1) _ (laid-out _ (a .asked .now) (a .weights .now) (c .before .before .before .before .before .before .before .lay .ensures)) _ (c .before .before .before .before .before .before .sieve-of .ensures)
 
 finish-requires : tie.Need-finish-requires
-finish-requires c κs = search needs
+finish-requires c κs = tt
 
 same-length-4 : tie.Need-same-length-4
 same-length-4 c = search needs

@@ -36,7 +36,7 @@ part-read-end-2 : tie.Need-part-read-end-2
 part-read-end-2 c = search needs
 
 read-requires : tie.Need-read-requires
-read-requires c κs = search needs
+read-requires c κs = tt
 
 enum-told : tie.Need-enum-told
 enum-told c = search needs

@@ -5,7 +5,7 @@ use lib.ListN.{length as len, getD}
 use Rattle.kept_list.specs.Lent.{lent}
 use Rattle.probing.specs.Ranges.{rangeReading}
 use Rattle.probing.specs.Probed.{lends, listed}
-use Rattle.probing.specs.Held.{counts as counted, worstHeld, blockAt, heldSweep}
+use Rattle.probing.specs.Held.{counts as counted, worstHeld, heldSweep}
 use Rattle.probing.specs.Counted.{unvisited, unvisited-few, kept-on, turn-keeps}
 use Rattle.probing.proofs.Steps.{ready-bytes, ready-same}
 use Rattle.probing.proofs.Turns.{sweep-on, sweep-stop, sweep-end, listedFrom, listed-next, listed-none, listed-all}
@@ -25,19 +25,16 @@ abbrev μ-loop : tie.MeasureT-loop
 μ-loop table sieve asked weights components values k factor postings offsets dots order turns length₀ packed₀ scores₀ visits₀ c₀ worst₀ i₀ length packed scores visits c worst i = turns - i
 
 worst-kept-requires : tie.Need-worst-kept-requires Inv-loop μ-loop
-worst-kept-requires c κs = search needs
+worst-kept-requires c κs = tt
 
 loop-holds : tie.Need-loop-holds Inv-loop μ-loop
 loop-holds c = (refl, refl, refl, refl, omega arith, let a = c .before .before .before .before .before .before .before .before .before .before .before .before .before .before .args in ap (λ bs. heldSweep (a .k) (a .factor) (rangeReading (a .asked .now) (a .weights .now) (a .components .now) (a .values .now)) (a .postings .now) (a .offsets .now) (a .dots .now) bs (counted 0 0) (lends (lent (a .length .now) (a .packed .now) (a .scores .now)) (a .visits .now))) (listed-all (a .order .now) (a .turns)), c .worst-kept .ensures)
 
-number-at-requires : tie.Need-number-at-requires Inv-loop μ-loop
-number-at-requires c κs = search needs
-
 block-at-requires : tie.Need-block-at-requires Inv-loop μ-loop
-block-at-requires c κs = search needs
+block-at-requires c κs = tt
 
 take-turn-requires : tie.Need-take-turn-requires Inv-loop μ-loop
-take-turn-requires c κs = let l = c .before .before .before .before .before .before .before .loop in let a = c .before .before .before .before .before .before .before .before .before .before .before .before .before .before .before .before .before .before .before .before .before .before .args in (ready-same (a .table .now) (a .sieve .now) (a .asked .now) (a .weights .now) (a .components .now) (a .values .now) (len (a .visits .now)) (len (l .visits)) (c .before .before .before .before .before .before .before .before .before .before .before .before .before .before .before .before .before .before .before .before .before .before .pre) (l .inv .2), (omega (arith, l .inv .2, l .inv .3, unvisited-few (a .visits .now)), (omega (arith, l .inv .4, c .before .before .before .before .before .before .loop-test .taken, c .before .before .before .before .before .before .before .before .before .before .before .before .before .before .before .before .before .before .before .before .before .before .fits .turns), l .inv .6)))
+take-turn-requires c κs = let l = c .before .before .before .before .before .before .loop in let a = c .before .before .before .before .before .before .before .before .before .before .before .before .before .before .before .before .before .before .before .before .before .args in (ready-same (a .table .now) (a .sieve .now) (a .asked .now) (a .weights .now) (a .components .now) (a .values .now) (len (a .visits .now)) (len (l .visits)) (c .before .before .before .before .before .before .before .before .before .before .before .before .before .before .before .before .before .before .before .before .before .pre) (l .inv .2), (omega (arith, l .inv .2, l .inv .3, unvisited-few (a .visits .now)), (omega (arith, l .inv .4, c .before .before .before .before .before .loop-test .taken, c .before .before .before .before .before .before .before .before .before .before .before .before .before .before .before .before .before .before .before .before .before .fits .turns), l .inv .6)))
 
 enum-known-t : tie.Need-enum-known-t Inv-loop μ-loop
 enum-known-t c = search needs
@@ -55,28 +52,28 @@ same-length-3 : tie.Need-same-length-3 Inv-loop μ-loop
 same-length-3 c = search needs
 
 returns : tie.Need-returns Inv-loop μ-loop
-returns c = let l = c .before .before .before .before .before .before .before .before .before .before .before .before .before .before .before .before .before .loop in let a = c .before .before .before .before .before .before .before .before .before .before .before .before .before .before .before .before .before .before .before .before .before .before .before .before .before .before .before .before .before .before .before .before .args in sweep-stop (a .k) (a .factor) (rangeReading (a .asked .now) (a .weights .now) (a .components .now) (a .values .now)) (a .postings .now) (a .offsets .now) (a .dots .now) (getD (a .order .now) (l .i) (l .i)) _ _ (listed-next (a .order .now) (l .i) (a .turns) (c .before .before .before .before .before .before .before .before .before .before .before .before .before .before .before .before .loop-test .taken)) (l .c) (lends (lent (l .length) (l .packed) (l .scores)) (l .visits)) (c .before .before .before .before .before .before .before .before .before .before .before .before .before .before .block-at .result) (c .before .before .before .before .before .before .before .before .before .before .before .before .before .before .block-at .ensures ∙ ap (blockAt (a .offsets .now) (a .dots .now)) (c .before .before .before .before .before .before .before .before .before .before .before .before .before .before .before .number-at .ensures)) (c .before .before .before .before .before .before .before .before .before .take-turn .result) _ _ _ (c .before .t2 .given .1) (c .before .before .before .before .before .before .before .before .before .take-turn .ensures) ∙ l .inv .5
+returns c = let l = c .before .before .before .before .before .before .before .before .before .before .before .before .before .before .before .before .loop in let a = c .before .before .before .before .before .before .before .before .before .before .before .before .before .before .before .before .before .before .before .before .before .before .before .before .before .before .before .before .before .before .before .args in sweep-stop (a .k) (a .factor) (rangeReading (a .asked .now) (a .weights .now) (a .components .now) (a .values .now)) (a .postings .now) (a .offsets .now) (a .dots .now) (getD (a .order .now) (l .i) (l .i)) _ _ (listed-next (a .order .now) (l .i) (a .turns) (c .before .before .before .before .before .before .before .before .before .before .before .before .before .before .before .loop-test .taken)) (l .c) (lends (lent (l .length) (l .packed) (l .scores)) (l .visits)) (c .before .before .before .before .before .before .before .before .before .before .before .before .before .before .block-at .result) (c .before .before .before .before .before .before .before .before .before .before .before .before .before .before .block-at .ensures) (c .before .before .before .before .before .before .before .before .before .take-turn .result) _ _ _ (c .before .t2 .given .1) (c .before .before .before .before .before .before .before .before .before .take-turn .ensures) ∙ l .inv .5
 
 worst-kept-requires-2 : tie.Need-worst-kept-requires-2 Inv-loop μ-loop
-worst-kept-requires-2 c κs = search needs
+worst-kept-requires-2 c κs = tt
 
 add-i : tie.Need-add-i Inv-loop μ-loop
-add-i c = omega (arith, c .before .before .before .before .before .before .before .before .before .before .before .before .before .before .before .before .before .before .before .loop-test .taken, c .before .before .before .before .before .before .before .before .before .before .before .before .before .before .before .before .before .before .before .before .before .before .before .before .before .before .before .before .before .before .before .before .before .before .before .fits .turns)
+add-i c = omega (arith, c .before .before .before .before .before .before .before .before .before .before .before .before .before .before .before .before .before .before .loop-test .taken, c .before .before .before .before .before .before .before .before .before .before .before .before .before .before .before .before .before .before .before .before .before .before .before .before .before .before .before .before .before .before .before .before .before .before .fits .turns)
 
 loop-less : tie.Need-loop-less Inv-loop μ-loop
 loop-less c = search needs
 
 loop-again : tie.Need-loop-again Inv-loop μ-loop
 loop-again c =
-    let l = c .before .before .before .before .before .before .before .before .before .before .before .before .before .before .before .before .before .before .before .before .loop in
-    let a = c .before .before .before .before .before .before .before .before .before .before .before .before .before .before .before .before .before .before .before .before .before .before .before .before .before .before .before .before .before .before .before .before .before .before .before .args in
-    let q = kept-on (l .c .skipped + 1) (l .c) (l .visits) (c .before .before .before .before .before .before .before .before .before .before .before .before .take-turn .result) _ _ _ (c .before .before .before .before .before .before .before .before .before .before .before .before .take-turn .ensures) (turn-keeps (a .k) (rangeReading (a .asked .now) (a .weights .now) (a .components .now) (a .values .now)) (a .factor) (a .postings .now) (c .before .before .before .before .before .before .before .before .before .before .before .before .before .before .before .before .before .block-at .result) (l .c) (lends (lent (l .length) (l .packed) (l .scores)) (l .visits)) (ready-bytes (a .table .now) (a .sieve .now) (a .asked .now) (a .weights .now) (a .components .now) (a .values .now) (len (l .visits)) (ready-same (a .table .now) (a .sieve .now) (a .asked .now) (a .weights .now) (a .components .now) (a .values .now) (len (a .visits .now)) (len (l .visits)) (c .before .before .before .before .before .before .before .before .before .before .before .before .before .before .before .before .before .before .before .before .before .before .before .before .before .before .before .before .before .before .before .before .before .before .before .pre) (l .inv .2)))) (c .before .before .before .before .t .given .1) in (
+    let l = c .before .before .before .before .before .before .before .before .before .before .before .before .before .before .before .before .before .before .before .loop in
+    let a = c .before .before .before .before .before .before .before .before .before .before .before .before .before .before .before .before .before .before .before .before .before .before .before .before .before .before .before .before .before .before .before .before .before .before .args in
+    let q = kept-on (l .c .skipped + 1) (l .c) (l .visits) (c .before .before .before .before .before .before .before .before .before .before .before .before .take-turn .result) _ _ _ (c .before .before .before .before .before .before .before .before .before .before .before .before .take-turn .ensures) (turn-keeps (a .k) (rangeReading (a .asked .now) (a .weights .now) (a .components .now) (a .values .now)) (a .factor) (a .postings .now) (c .before .before .before .before .before .before .before .before .before .before .before .before .before .before .before .before .before .block-at .result) (l .c) (lends (lent (l .length) (l .packed) (l .scores)) (l .visits)) (ready-bytes (a .table .now) (a .sieve .now) (a .asked .now) (a .weights .now) (a .components .now) (a .values .now) (len (l .visits)) (ready-same (a .table .now) (a .sieve .now) (a .asked .now) (a .weights .now) (a .components .now) (a .values .now) (len (a .visits .now)) (len (l .visits)) (c .before .before .before .before .before .before .before .before .before .before .before .before .before .before .before .before .before .before .before .before .before .before .before .before .before .before .before .before .before .before .before .before .before .before .pre) (l .inv .2)))) (c .before .before .before .before .t .given .1) in (
       search needs,
       search needs,
       q .1 ∙ l .inv .2,
       q .0 ∙ l .inv .3,
       omega (arith, q .2, l .inv .4),
-      sweep-on (a .k) (a .factor) (rangeReading (a .asked .now) (a .weights .now) (a .components .now) (a .values .now)) (a .postings .now) (a .offsets .now) (a .dots .now) (getD (a .order .now) (l .i) (l .i)) _ _ (listed-next (a .order .now) (l .i) (a .turns) (c .before .before .before .before .before .before .before .before .before .before .before .before .before .before .before .before .before .before .before .loop-test .taken)) (l .c) (lends (lent (l .length) (l .packed) (l .scores)) (l .visits)) (c .before .before .before .before .before .before .before .before .before .before .before .before .before .before .before .before .before .block-at .result) (c .before .before .before .before .before .before .before .before .before .before .before .before .before .before .before .before .before .block-at .ensures ∙ ap (blockAt (a .offsets .now) (a .dots .now)) (c .before .before .before .before .before .before .before .before .before .before .before .before .before .before .before .before .before .before .number-at .ensures)) (c .before .before .before .before .before .before .before .before .before .before .before .before .take-turn .result) _ _ (c .before .before .before .before .t .given .1) (c .before .before .before .before .before .before .before .before .before .before .before .before .take-turn .ensures) ∙ l .inv .5,
+      sweep-on (a .k) (a .factor) (rangeReading (a .asked .now) (a .weights .now) (a .components .now) (a .values .now)) (a .postings .now) (a .offsets .now) (a .dots .now) (getD (a .order .now) (l .i) (l .i)) _ _ (listed-next (a .order .now) (l .i) (a .turns) (c .before .before .before .before .before .before .before .before .before .before .before .before .before .before .before .before .before .before .loop-test .taken)) (l .c) (lends (lent (l .length) (l .packed) (l .scores)) (l .visits)) (c .before .before .before .before .before .before .before .before .before .before .before .before .before .before .before .before .before .block-at .result) (c .before .before .before .before .before .before .before .before .before .before .before .before .before .before .before .before .before .block-at .ensures) (c .before .before .before .before .before .before .before .before .before .before .before .before .take-turn .result) _ _ (c .before .before .before .before .t .given .1) (c .before .before .before .before .before .before .before .before .before .before .before .before .take-turn .ensures) ∙ l .inv .5,
       c .worst-kept2 .ensures,
     )
 
@@ -100,7 +97,6 @@ sweep-spec =
     μ-loop
     worst-kept-requires
     loop-holds
-    number-at-requires
     block-at-requires
     take-turn-requires
     enum-known-t

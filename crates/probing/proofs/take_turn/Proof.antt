@@ -10,7 +10,7 @@ use Rattle.probing.proofs.take_turn.Statement.{statement}
 use Rattle.probing.proofs.take_turn.Tie as tie
 
 skips-requires : tie.Need-skips-requires
-skips-requires c κs = search needs
+skips-requires c κs = tt
 
 add-t21 : tie.Need-add-t21
 add-t21 c = search needs
@@ -19,7 +19,7 @@ returns : tie.Need-returns
 returns c = let a = c .before .before .before .before .before .before .before .before .before .before .before .before .args in turn-skips (a .k) (a .factor) (rangeReading (a .asked .now) (a .weights .now) (a .components .now) (a .values .now)) (a .postings .now) (a .block) (a .counts) (lends (lent (a .length .now) (a .packed .now) (a .scores .now)) (a .visits .now)) (skips-by (a .k) (a .factor) (a .block .score) (a .length .now) (a .scores .now) (a .worst) (c .before .before .skips .result) true (c .before .before .before .before .before .before .before .before .before .before .before .before .pre .1 .1 .1) (c .before .before .skips .ensures) (c .before .if1 .taken))
 
 least-requires : tie.Need-least-requires
-least-requires c κs = search needs
+least-requires c κs = tt
 
 probe-postings-requires : tie.Need-probe-postings-requires
 probe-postings-requires c κs = (c .before .before .before .before .before .before .before .before .before .before .before .before .before .before .before .before .pre .0, (c .before .before .before .before .before .before .before .before .before .before .before .before .before .before .before .before .pre .1 .0, omega (arith, c .before .before .before .before .least .ensures)))

@@ -1,7 +1,7 @@
 -- `scored_list::entry` meets its contract: a walk of its MIR, by hand. The borrow of the slice is looked into, one entry is copied out, and the borrow is shut again; past the end `no_entry` is called.
 -- Assumes nothing.
 use mathlib.Core.Path.{_≡_, refl, sym, _∙_}
-use mathlib.Core.Bool.{Bool, true, false, not}
+use mathlib.Core.Bool.{not}
 use lib.Dec.{T, leb}
 use borrow.Author.Tests.{leb-true, leb-false}
 use Prim.Native.Nat.{ℕ, zero, suc, _≤_, _<_, _^_}
@@ -50,7 +50,7 @@ use Rattle.scored_list.proofs.no_entry as none
 use Rattle.scored_list.proofs.no_entry.Symbol as none-def
 use Rattle.scored_list.proofs.no_entry.Symbol.{name as #scored_list·no-entry}
 use Rattle.scored_list.proofs.no_entry.Met as none-thm
-use Rattle.scored_list.proofs.Walking.{unless, stride-fits}
+use Rattle.scored_list.proofs.Walking.{unless, stride-fits, is-true, is-false}
 use Rattle.scored_list.proofs.entry.Key.{name as #scored_list·entry}
 use Rattle.scored_list.proofs.entry as entry
 use Rattle.scored_list.proofs.entry.Statement as stated
@@ -67,14 +67,6 @@ past-end : (ys : List Scored) (i : ℕ) → length ys ≤ i → noEntry ≡ getD
 past-end [] i h = refl
 past-end (y ∷ ys) zero h = absurd (omega arith)
 past-end (y ∷ ys) (suc i) h = past-end ys i (omega arith)
-
-is-true : (t : Bool) → T t → t ≡ true
-is-true true _ = refl
-is-true false a = absurd a
-
-is-false : (t : Bool) → T (not t) → t ≡ false
-is-false true a = absurd a
-is-false false _ = refl
 
 module _ {M : Type 1} (𝓤 : URA M) (H : Heap 𝓤) (A : Atoms 𝓤) (mem : Memory → SProp 𝓤) (run : Routine → Fun 𝓤) where
   -- the contract that the proof cites

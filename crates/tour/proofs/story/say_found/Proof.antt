@@ -1,58 +1,53 @@
-use Prim.Native.Nat.{_-_}
-use lib.ListN.{length as len}
 use borrow.Author.Needs.{needs}
+use Prim.Native.Nat.{_-_}
 use Rattle.tour.proofs.story.say_found.Statement.{statement}
 use Rattle.tour.proofs.story.say_found.Tie as tie
 use Rattle.tour.proofs.story.say_found.Reads as reads
 use Rattle.tour.proofs.story.say_found.Lts as lts
 use Rattle.tour.proofs.story.say_kept.Reads as say-kept-reads
-use Rattle.tour.proofs.story.value_at.Reads as value-at-reads
+use Rattle.tour.proofs.story.say_none.Reads as say-none-reads
+use Rattle.tour.proofs.text.say.Reads as say-reads
+use Rattle.held.proofs.dot_at.Reads as dot-at-reads
+use Rattle.held.proofs.offset_at.Reads as offset-at-reads
 
 abbrev Inv-loop : tie.InvT-loop
-Inv-loop offsets length packed scores most i₀ i = Unit
+Inv-loop length packed scores i₀ i = Unit
 
 abbrev μ-loop : tie.MeasureT-loop
-μ-loop offsets length packed scores most i₀ i = len packed - i
+μ-loop length packed scores i₀ i = length - i
 
--- src/story.rt:40:5
+slice-aggregate-say : tie.Need-slice-aggregate-say Inv-loop μ-loop
+slice-aggregate-say c = search needs
+
+say-requires : tie.Need-say-requires Inv-loop μ-loop
+say-requires c κs = search needs
+
+say-none-requires : tie.Need-say-none-requires Inv-loop μ-loop
+say-none-requires c κs = search needs
+
 loop-holds : tie.Need-loop-holds Inv-loop μ-loop
 loop-holds c = search needs
 
--- src/story.rt:42:13
-returns : tie.Need-returns Inv-loop μ-loop
-returns c = search needs
+offset-at-requires : tie.Need-offset-at-requires Inv-loop μ-loop
+offset-at-requires c κs = search needs
 
--- src/story.rt:44:27
-mul-say-kept : tie.Need-mul-say-kept Inv-loop μ-loop
-mul-say-kept c = search needs
+dot-at-requires : tie.Need-dot-at-requires Inv-loop μ-loop
+dot-at-requires c κs = search needs
 
--- src/story.rt:44:27
-shared-slice-read-say-kept : tie.Need-shared-slice-read-say-kept Inv-loop μ-loop
-shared-slice-read-say-kept c = search needs
-
--- src/story.rt:44:38
-value-at-requires : tie.Need-value-at-requires Inv-loop μ-loop
-value-at-requires c κs = search needs
-
--- src/story.rt:44:9
 say-kept-requires : tie.Need-say-kept-requires Inv-loop μ-loop
 say-kept-requires c κs = search needs
 
--- src/story.rt:45:9
 add-i : tie.Need-add-i Inv-loop μ-loop
 add-i c = search needs
 
--- src/story.rt:40:5
 loop-less : tie.Need-loop-less Inv-loop μ-loop
 loop-less c = search needs
 
--- src/story.rt:40:5
 loop-again : tie.Need-loop-again Inv-loop μ-loop
 loop-again c = search needs
 
--- src/story.rt:36:1
-returns-2 : tie.Need-returns-2 Inv-loop μ-loop
-returns-2 c = search needs
+returns : tie.Need-returns Inv-loop μ-loop
+returns c = search needs
 
 pub say-found-spec : {M : Type 1} → statement M
 say-found-spec =
@@ -60,13 +55,14 @@ say-found-spec =
     (tie.spec
     Inv-loop
     μ-loop
+    slice-aggregate-say
+    say-requires
+    say-none-requires
     loop-holds
-    returns
-    mul-say-kept
-    shared-slice-read-say-kept
-    value-at-requires
+    offset-at-requires
+    dot-at-requires
     say-kept-requires
     add-i
     loop-less
     loop-again
-    returns-2)
+    returns)

@@ -1,0 +1,86 @@
+-- `approximate_passes::gathering::gather` meets its contract. Assumes nothing.
+use mathlib.Core.Bool.{not}
+use Rattle.lists.specs.Lists.{those}
+use Rattle.passes.specs.Ranked.{rankIn, isSmall}
+use Rattle.approximate_passes.specs.Gathering.{gather-step, gather-end}
+use mathlib.Core.Path.{_≡_, refl, ap, _∙_}
+use mathlib.Core.List.{_++_}
+use Prim.Native.Nat.{_-_, _≤_}
+use native.Mathlib.Omega.{arith}
+use lib.ListN.{length, take, drop}
+use borrow.Author.Needs.{needs}
+use Rattle.approximate_passes.proofs.gathering.gather.Statement.{statement}
+use Rattle.approximate_passes.proofs.gathering.gather.Tie as tie
+
+abbrev Inv-loop : tie.InvT-loop
+Inv-loop minimum centroids known counts competing₀ n₀ i₀ competing n i = (length competing ≡ length competing₀) × (n ≤ i) × (i ≤ length centroids) × (take n competing ++ those (λ c. not (isSmall counts minimum (rankIn known c))) (drop i centroids) ≡ those (λ c. not (isSmall counts minimum (rankIn known c))) centroids)
+
+abbrev μ-loop : tie.MeasureT-loop
+μ-loop minimum centroids known counts competing₀ n₀ i₀ competing n i = length centroids - i
+
+loop-holds : tie.Need-loop-holds Inv-loop μ-loop
+loop-holds c = (refl, omega arith, omega arith, refl)
+
+mul-push : tie.Need-mul-push Inv-loop μ-loop
+mul-push c = search needs
+
+shared-slice-read-push : tie.Need-shared-slice-read-push Inv-loop μ-loop
+shared-slice-read-push c = search needs
+
+rank-requires : tie.Need-rank-requires Inv-loop μ-loop
+rank-requires c κs = search needs
+
+is-small-requires : tie.Need-is-small-requires Inv-loop μ-loop
+is-small-requires c κs = search needs
+
+mul-push-2 : tie.Need-mul-push-2 Inv-loop μ-loop
+mul-push-2 c = search needs
+
+shared-slice-read-push-2 : tie.Need-shared-slice-read-push-2 Inv-loop μ-loop
+shared-slice-read-push-2 c = search needs
+
+push-requires : tie.Need-push-requires Inv-loop μ-loop
+push-requires c κs = let l = c .before .before .before .before .before .before .loop in omega (arith, c .before .before .before .before .before .before .before .before .before .before .before .pre, l .inv .0, l .inv .1, c .before .before .before .before .before .loop-test .taken)
+
+add-i : tie.Need-add-i Inv-loop μ-loop
+add-i c = search needs
+
+loop-less : tie.Need-loop-less Inv-loop μ-loop
+loop-less c = search needs
+
+loop-again : tie.Need-loop-again Inv-loop μ-loop
+loop-again c = let l = c .before .before .before .before .before .before .before .before .before .loop in let a = c .before .before .before .before .before .before .before .before .before .before .before .before .before .before .args in (
+  search needs,
+  omega (arith, l .inv .1, c .before .before .push .ensures .1),
+  omega (arith, c .before .before .before .before .before .before .before .before .loop-test .taken),
+  gather-step (λ c. isSmall (a .counts .now) (a .minimum) (rankIn (a .known .now) c)) (a .centroids .now) (l .competing) (c .before .before .push .last .1 .1 .0) (l .i) (l .n) (c .before .before .push .result) (c .before .before .before .before .before .is-small .result) (c .before .before .before .before .before .before .before .before .loop-test .taken) (c .before .before .before .before .before .is-small .ensures ∙ ap (isSmall (a .counts .now) (a .minimum)) (c .before .before .before .before .before .before .rank .ensures)) (c .before .before .push .ensures .0) ∙ l .inv .3,
+)
+
+same-length : tie.Need-same-length Inv-loop μ-loop
+same-length c = search needs
+
+returns : tie.Need-returns Inv-loop μ-loop
+returns c = let l = c .before .loop in let a = c .before .before .before .before .before .before .args in (
+  gather-end (λ c. isSmall (a .counts .now) (a .minimum) (rankIn (a .known .now) c)) (a .centroids .now) (l .competing) (l .i) (l .n) (c .loop-test .left) (l .inv .3),
+  omega (arith, l .inv .1, l .inv .2, c .before .before .before .before .before .before .pre),
+)
+
+pub gather-spec : {M : Type 1} → statement M
+gather-spec =
+    tie.close
+    (tie.spec
+    Inv-loop
+    μ-loop
+    loop-holds
+    mul-push
+    shared-slice-read-push
+    rank-requires
+    is-small-requires
+    mul-push-2
+    shared-slice-read-push-2
+    push-requires
+    add-i
+    loop-less
+    loop-again
+    same-length
+    returns)

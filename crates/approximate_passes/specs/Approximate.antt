@@ -1,0 +1,182 @@
+-- The approximate mode's passes give the ranks of document 01's centroids. Assumes nothing.
+use Prim.Native.Nat.{ℕ, _≤_, _<_, _^_, min}
+use native.Mathlib.Omega.{arith}
+use mathlib.Core.Path.{_≡_, refl, sym, ap, _∙_}
+use mathlib.Core.Bool.{Bool, true, false, not, cond}
+use mathlib.Core.List.{List, [], _∷_, _++_, map}
+use lib.ListN.{length, getD, take, drop, replicate, length-map, length-take}
+use lib.Seq.{take-at, take-all}
+use lib.Ieee.{Float}
+use Rattle.sort.specs.Sorted.{sorted}
+use Rattle.sort.specs.Laws.{length-sorted}
+use Rattle.lists.specs.Lists.{EachOf, those, firstOr}
+use Rattle.documents.specs.Documents.{Documents, documents, terms, largest}
+use Rattle.counting.specs.Counting.{laidOut, counted, tally}
+use Rattle.counting.specs.Tally.{tally-is}
+use Rattle.centroid_index.specs.Index.{indexed}
+use Rattle.assignment.specs.Nearest.{nearly, lastNoLess}
+use Rattle.assignment.specs.Loops.{nearly-loop}
+use Rattle.assignment.specs.Scored.{scoresOf}
+use Rattle.clusters.specs.Clusters.{assign, small, dissolved, survivors, approximately}
+use Rattle.clusters.specs.Ordered.{sorted-ordered, among-sorted}
+use Rattle.clusters.specs.Ranks.{rankOf, Among}
+use Rattle.clusters.specs.Canonical.{reassign-is}
+use Rattle.clusters.specs.Members.{nearly-among, each-among, those-among}
+use Rattle.passes.specs.Ranked.{rankIn, isSmall, rank-in}
+use Rattle.passes.specs.Passes.{over, over-map, over-mapped, cut-take, cut-drop}
+use Rattle.passes.specs.Indexes.{indexDocuments, Indexes, rest, scores-are, indexes-some}
+use Rattle.passes.specs.Sizes.{small-is, each-same}
+use Rattle.passes.specs.Room.{Room}
+
+-- ---- what the passes leave, for slices of any length: s offsets, a slots, b weights, n scores, k counters, q keys
+-- the last greatest of those that compete, by the largest of the terms that find a place
+abbrev pub nearlyChoice : ℕ → ℕ → List ℕ → Documents → ℕ → ℕ → Documents → ℕ → ℕ
+nearlyChoice cut first competing index n q d i = lastNoLess first competing (scoresOf index n (largest cut (take q (terms d i))))
+
+-- the centroids whose groups don't
+abbrev pub remaining : List ℕ → List ℕ → ℕ → List ℕ → List ℕ
+remaining known counts minimum centroids = those (λ c. not (isSmall counts minimum (rankIn known c))) centroids
+
+abbrev pub againRank : List ℕ → List ℕ → ℕ → ℕ → ℕ → List ℕ → Documents → ℕ → ℕ → Documents → ℕ → ℕ → ℕ
+againRank known counts minimum cut first competing index n q d i r = cond (isSmall counts minimum r) (rankIn known (nearlyChoice cut first competing index n q d i)) r
+
+abbrev pub nearlyRanks : Documents → ℕ → List ℕ → List ℕ → ℕ → ℕ → ℕ → ℕ → ℕ → ℕ → ℕ
+nearlyRanks d cut centroids known s a b n q i = rankIn known (nearlyChoice cut (firstOr 0 centroids) centroids (indexDocuments (indexed d centroids s a b)) n q d i)
+
+-- the counts after the first pass
+abbrev pub countsOf : Documents → ℕ → List ℕ → List ℕ → ℕ → ℕ → ℕ → ℕ → ℕ → ℕ → List ℕ → List ℕ
+countsOf d cut centroids known s a b n k q ids = counted (replicate k 0) (map (nearlyRanks d cut centroids known s a b n q) ids)
+
+-- a rank after both
+abbrev pub bothRanks : Documents → ℕ → ℕ → List ℕ → List ℕ → List ℕ → ℕ → ℕ → ℕ → ℕ → ℕ → ℕ → ℕ → ℕ
+bothRanks d cut minimum centroids known counts s a b n q i r =
+    let left = remaining known counts minimum centroids in
+    againRank known counts minimum cut (firstOr 0 centroids) left (indexDocuments (indexed d left s a b)) n q d i r
+
+unfoldable pub approximateRanks : Documents → ℕ → ℕ → List ℕ → List ℕ → ℕ → ℕ → ℕ → ℕ → ℕ → ℕ → List ℕ → List ℕ
+approximateRanks d cut minimum centroids known s a b n k q ids =
+    map (λ i. bothRanks d cut minimum centroids known (countsOf d cut centroids known s a b n k q ids) s a b n q i (nearlyRanks d cut centroids known s a b n q i)) ids
+
+-- ---- the choice is document 01's where each term finds a place
+nearly-is : (d : Documents) (cut first : ℕ) (cs : List ℕ) (s a b n q : ℕ) → Indexes d cs s a b n → (i : ℕ) → length (terms d i) ≤ q → nearlyChoice cut first cs (indexDocuments (indexed d cs s a b)) n q d i ≡ nearly d cut first cs i
+nearly-is d cut first cs s a b n q room i h =
+    ap (λ l. lastNoLess first cs (scoresOf (indexDocuments (indexed d cs s a b)) n (largest cut l))) (take-all q (terms d i) h)
+    ∙ ap (lastNoLess first cs) (scores-are d cs s a b n room (largest cut (terms d i)))
+    ∙ nearly-loop d cut first cs i (rest d cs s a b n room)
+
+those-each : (p q : ℕ → Bool) (l m : List ℕ) → ((c : ℕ) → Among l c → p c ≡ q c) → EachOf (Among l) m → those p m ≡ those q m
+those-each p q l [] h e = refl
+those-each p q l (c ∷ m) h e = let x = h c (e .0) in let y = those-each p q l m h (e .1) in rw (x, y)
+
+module _ (d : Documents) (cut minimum : ℕ) (centroids : List ℕ) (s a b n k q : ℕ) (room : Room d centroids s a b n k) (ids : List ℕ) (few : length ids < 2 ^ 64)
+    (fit : (i : ℕ) → Among (sorted ids) i → length (terms d i) ≤ q) where
+  abbrev firstNearly : ℕ → ℕ
+  firstNearly i = nearly d cut (firstOr 0 centroids) centroids i
+
+  abbrev againNearly : ℕ → ℕ
+  againNearly i = nearly d cut (firstOr 0 centroids) (survivors minimum (assign firstNearly ids) centroids) i
+
+  abbrev pub lastNearly : ℕ → ℕ
+  lastNearly i = cond (dissolved minimum (assign firstNearly ids) (firstNearly i)) (againNearly i) (firstNearly i)
+
+  first-known : (i : ℕ) → Among (sorted centroids) (firstNearly i)
+  first-known i = among-sorted (firstNearly i) centroids ∙ nearly-among d centroids (room .some) cut centroids (each-among centroids) i
+
+  pub last-known : (i : ℕ) → Among (sorted centroids) (lastNearly i)
+  last-known i = go (dissolved minimum (assign firstNearly ids) (firstNearly i))
+    where
+      go : (t : Bool) → Among (sorted centroids) (cond t (againNearly i) (firstNearly i))
+      go true = among-sorted (againNearly i) centroids ∙ nearly-among d centroids (room .some) cut (survivors minimum (assign firstNearly ids) centroids) (those-among centroids _) i
+      go false = first-known i
+
+  R : ℕ → ℕ
+  R i = rankOf (sorted centroids) (firstNearly i)
+
+  first-is : (i : ℕ) → Among (sorted ids) i → nearlyRanks d cut centroids (sorted centroids) s a b n q i ≡ R i
+  unfolding R
+  first-is i m = rank-in (sorted centroids) (nearlyChoice cut (firstOr 0 centroids) centroids (indexDocuments (indexed d centroids s a b)) n q d i) (sorted-ordered centroids) ∙ ap (rankOf (sorted centroids)) (nearly-is d cut (firstOr 0 centroids) centroids s a b n q (room .index) i (fit i m))
+
+  counts-are : countsOf d cut centroids (sorted centroids) s a b n k q (sorted ids) ≡ tally (λ j. rankOf (sorted centroids) (firstNearly j)) k (sorted ids)
+  unfolding R
+  counts-are =
+      ap (counted (replicate k 0)) (each-same (nearlyRanks d cut centroids (sorted centroids) s a b n q) R (sorted ids) (sorted ids) first-is (each-among (sorted ids)))
+      ∙ tally-is R k (sorted ids) (let l = length-sorted ids in omega arith)
+
+  module _ (counts : List ℕ) (e : counts ≡ tally (λ j. rankOf (sorted centroids) (firstNearly j)) k (sorted ids)) where
+    small-at : (c : ℕ) → Among (sorted centroids) c → isSmall counts minimum (rankOf (sorted centroids) c) ≡ dissolved minimum (assign firstNearly ids) c
+    small-at c m = ap (λ t. isSmall t minimum (rankOf (sorted centroids) c)) e ∙ small-is centroids k (room .counters) firstNearly first-known ids minimum c m
+
+    remain : remaining (sorted centroids) counts minimum centroids ≡ survivors minimum (assign firstNearly ids) centroids
+    remain =
+        those-each (λ c. not (isSmall counts minimum (rankIn (sorted centroids) c))) (λ c. not (dissolved minimum (assign firstNearly ids) c)) centroids centroids
+        (λ c m. ap not (ap (isSmall counts minimum) (rank-in (sorted centroids) c (sorted-ordered centroids)) ∙ small-at c (among-sorted c centroids ∙ m))) (each-among centroids)
+
+    both-are : (i : ℕ) → Among (sorted ids) i → bothRanks d cut minimum centroids (sorted centroids) counts s a b n q i (R i) ≡ rankOf (sorted centroids) (lastNearly i)
+    unfolding R
+    both-are i m =
+        let L = survivors minimum (assign firstNearly ids) centroids in
+        let w : nearlyChoice cut (firstOr 0 centroids) L (indexDocuments (indexed d L s a b)) n q d i ≡ againNearly i =
+        nearly-is d cut (firstOr 0 centroids) L s a b n q (indexes-some (λ c. not (dissolved minimum (assign firstNearly ids) c)) d centroids s a b n (room .index)) i (fit i m) in
+        ap (λ l. againRank (sorted centroids) counts minimum cut (firstOr 0 centroids) l (indexDocuments (indexed d l s a b)) n q d i (rankOf (sorted centroids) (firstNearly i))) remain
+        ∙ (λ j. cond (small-at (firstNearly i) (first-known i) j) ((rank-in (sorted centroids) (nearlyChoice cut (firstOr 0 centroids) L (indexDocuments (indexed d L s a b)) n q d i) (sorted-ordered centroids) ∙ ap (rankOf (sorted centroids)) w) j) (rankOf (sorted centroids) (firstNearly i)))
+        ∙ go (dissolved minimum (assign firstNearly ids) (firstNearly i))
+      where
+        go : (t : Bool) → cond t (rankOf (sorted centroids) (againNearly i)) (rankOf (sorted centroids) (firstNearly i)) ≡ rankOf (sorted centroids) (cond t (againNearly i) (firstNearly i))
+        go true = refl
+        go false = refl
+
+  -- the ranks that the passes leave
+  pub approximate-ranks : approximateRanks d cut minimum centroids (sorted centroids) s a b n k q (sorted ids) ≡ map (λ i. rankOf (sorted centroids) (lastNearly i)) (sorted ids)
+  unfolding approximateRanks
+  approximate-ranks =
+      let C = countsOf d cut centroids (sorted centroids) s a b n k q (sorted ids) in
+      each-same (λ i. bothRanks d cut minimum centroids (sorted centroids) C s a b n q i (nearlyRanks d cut centroids (sorted centroids) s a b n q i)) (λ i. rankOf (sorted centroids) (lastNearly i)) (sorted ids) (sorted ids)
+      (λ i m. ap (bothRanks d cut minimum centroids (sorted centroids) C s a b n q i) (first-is i m) ∙ both-are C counts-are i m)
+      (each-among (sorted ids))
+
+  -- and these centroids are the approximate mode's
+  pub approximately-is : assign lastNearly ids ≡ approximately d cut minimum centroids ids
+  unfolding approximately
+  approximately-is = sym (reassign-is minimum firstNearly againNearly ids)
+
+-- ---- the steps one after another
+-- the first pass over the index of all centroids, and counts
+pub assigned-first : (d : Documents) (cut : ℕ) (C K : List ℕ) (s a b n k q : ℕ) (ids t S F : List ℕ) (W : List Float) (m : ℕ) (t1 z counts : List ℕ) → laidOut S F W ≡ indexed d C s a b → length ids ≤ length t
+    → t1 ≡ over (λ i r. rankIn K (nearlyChoice cut m C (documents S F W) n q d i)) ids t → m ≡ firstOr 0 C → z ≡ replicate k 0 → counts ≡ counted z (take (length ids) t1)
+    → (t1 ≡ map (nearlyRanks d cut C K s a b n q) ids ++ drop (length ids) t) × (counts ≡ countsOf d cut C K s a b n k q ids)
+assigned-first d cut C K s a b n k q ids t S F W m t1 z counts f h p e y c =
+    let R : ℕ → ℕ = nearlyRanks d cut C K s a b n q in
+    let I : documents S F W ≡ indexDocuments (indexed d C s a b) = ap indexDocuments f in
+    let P : t1 ≡ map R ids ++ drop (length ids) t = p ∙ (λ j. over (λ i r. rankIn K (nearlyChoice cut (e j) C (I j) n q d i)) ids t) ∙ over-map R ids t h in
+    let T : take (length ids) t1 ≡ map R ids = ap (take (length ids)) P ∙ take-at (map R ids) (drop (length ids) t) (length ids) (length-map ids R) in
+    (P, c ∙ (λ j. counted (y j) (T j)))
+
+-- the second pass over the index of those that remain
+pub assigned-again : (d : Documents) (cut minimum : ℕ) (C K : List ℕ) (s a b n q : ℕ) (ids counts t G S F : List ℕ) (W : List Float) (m : ℕ) (t2 : List ℕ) → G ≡ remaining K counts minimum C → laidOut S F W ≡ indexed d G s a b
+    → m ≡ firstOr 0 C → t2 ≡ over (againRank K counts minimum cut m G (documents S F W) n q d) ids t → t2 ≡ over (bothRanks d cut minimum C K counts s a b n q) ids t
+assigned-again d cut minimum C K s a b n q ids counts t G S F W m t2 g f e p =
+    p
+    ∙ ap (λ x. over (againRank K counts minimum cut m G x n q d) ids t) (ap indexDocuments f)
+    ∙ (λ j. over (againRank K counts minimum cut (e j) (g j) (indexDocuments (indexed d (g j) s a b)) n q d) ids t)
+
+-- both
+pub assigned-both : (d : Documents) (cut minimum : ℕ) (C K : List ℕ) (s a b n k q : ℕ) (ids t t1 counts t2 : List ℕ) (s' a' b' n' q' : ℕ)
+    → t1 ≡ map (nearlyRanks d cut C K s a b n q) ids ++ drop (length ids) t → counts ≡ countsOf d cut C K s a b n k q ids → s' ≡ s → a' ≡ a → b' ≡ b → n' ≡ n → q' ≡ q
+    → t2 ≡ over (bothRanks d cut minimum C K counts s' a' b' n' q') ids t1 → t2 ≡ approximateRanks d cut minimum C K s a b n k q ids ++ drop (length ids) t
+unfolding approximateRanks
+assigned-both d cut minimum C K s a b n k q ids t t1 counts t2 s' a' b' n' q' p c es ea eb en eq e =
+    e
+    ∙ (λ j. over (bothRanks d cut minimum C K (c j) (es j) (ea j) (eb j) (en j) (eq j)) ids (p j))
+    ∙ over-mapped (bothRanks d cut minimum C K (countsOf d cut C K s a b n k q ids) s a b n q) (nearlyRanks d cut C K s a b n q) ids (drop (length ids) t)
+
+pub approximate-length : (d : Documents) (cut minimum : ℕ) (C K : List ℕ) (s a b n k q : ℕ) (ids : List ℕ) → length (approximateRanks d cut minimum C K s a b n k q ids) ≡ length ids
+unfolding approximateRanks
+approximate-length d cut minimum C K s a b n k q ids = length-map ids _
+
+-- ---- cut to the room there is
+pub assigned-cut : (d : Documents) (cut minimum : ℕ) (C K competing : List ℕ) (s a b n k q : ℕ) (ids t : List ℕ) (i m : ℕ) (t2 : List ℕ) → i ≡ min (length ids) (length t) → m ≡ min (length C) (length competing)
+    → t2 ≡ approximateRanks d cut minimum (take m C) K s a b n k q (take i ids) ++ drop (length (take i ids)) t
+    → t2 ≡ approximateRanks d cut minimum (take (length competing) C) K s a b n k q (take (length t) ids) ++ drop (length ids) t
+assigned-cut d cut minimum C K competing s a b n k q ids t i m t2 e f p =
+    let l : length (take i ids) ≡ i = length-take i ids ∙ omega arith in
+    p ∙ (λ j. approximateRanks d cut minimum (cut-take C competing m f j) K s a b n k q (cut-take ids t i e j) ++ (ap (λ z. drop z t) l ∙ cut-drop ids t i e) j)

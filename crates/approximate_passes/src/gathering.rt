@@ -1,0 +1,45 @@
+// The centroids that remain after the first pass.
+use names::DocumentId;
+use ranking::is_small;
+use ranking::rank;
+ghost use mathlib.Core.Path.{_≡_};
+ghost use mathlib.Core.Bool.{cond};
+ghost use mathlib.Core.List.{[], _∷_, _++_};
+ghost use Prim.Native.Nat.{_+_, _≤_, _<_};
+ghost use lib.ListN.{length, take};
+ghost use Rattle.approximate_passes.specs.Approximate.{remaining};
+
+// Puts a centroid behind the first n of a slice unless its group dissolves, and answers how many these are then.
+fn push(dissolves: bool, centroid: u64, competing: &mut [u64], n: usize) -> usize
+    requires { ⌜ n < length (now competing) ⌝ }
+    ensures { λ r. ⌜ (take r (now (competing .exit)) ≡ take n (now (competing .entry)) ++ cond dissolves [] (centroid ∷ [])) × (r ≤ n + 1) ⌝ }
+{
+    if dissolves {
+        return n;
+    }
+    competing[n] = centroid;
+    n + 1
+}
+
+// Leaves the centroids whose groups don't dissolve, those that drew nothing included, as they come at the front of a slice, and
+// answers how many these are.
+pub(crate) fn gather(
+    minimum: u64,
+    centroids: &[u64],
+    known: &[u64],
+    counts: &[u64],
+    competing: &mut [u64],
+) -> usize
+    requires { ⌜ length (now centroids) ≤ length (now competing) ⌝ }
+    ensures { λ r. ⌜ (take r (now (competing .exit)) ≡ remaining (now (known .entry)) (now (counts .entry)) minimum (now (centroids .entry))) × (r ≤ length (now (competing .entry))) ⌝ }
+{
+    let mut n = 0usize;
+    let mut i = 0usize;
+    while i < centroids.len() {
+        let r = rank(known, DocumentId(centroids[i]));
+        let dissolves = is_small(counts, minimum, r);
+        n = push(dissolves, centroids[i], competing, n);
+        i += 1;
+    }
+    n
+}

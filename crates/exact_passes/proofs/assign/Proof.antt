@@ -1,0 +1,100 @@
+-- `exact_passes::assign` meets its contract. Assumes nothing.
+use lib.Seq.{length-take-le}
+use Rattle.documents.specs.Documents.{documents}
+use Rattle.passes.specs.Passes.{cut-fits}
+use Rattle.exact_passes.specs.Exact.{exactRanks, assigned-cut}
+use Prim.Native.Nat.{ℕ, _≤_, min}
+use mathlib.Core.Path.{_≡_, sym, ap, _∙_}
+use mathlib.Core.Bool.{false}
+use mathlib.Core.List.{List, _++_}
+use native.Mathlib.Omega.{arith}
+use lib.IntN.{pos}
+use lib.Ieee.{fin}
+use lib.ListN.{length, take, drop, replicate, length-append, length-drop}
+use borrow.Author.Needs.{needs}
+use Rattle.exact_passes.proofs.assign.Statement.{statement}
+use Rattle.exact_passes.proofs.assign.Tie as tie
+
+-- a slice whose front was lent keeps its length
+front-length : {A : Type 0} (S F : List A) (m : ℕ) → m ≤ length S → length F ≡ length (take m S) → length (F ++ drop m S) ≡ length S
+front-length S F m h e =
+    let a = length-append F (drop m S) in
+    let b = length-take-le m S h in
+    let c = length-drop m S in
+    omega (arith, a, b, c, e)
+
+smaller-requires : tie.Need-smaller-requires
+smaller-requires c κs = search needs
+
+smaller-requires-2 : tie.Need-smaller-requires-2
+smaller-requires-2 c κs = search needs
+
+slice-aggregate-assign-both : tie.Need-slice-aggregate-assign-both
+slice-aggregate-assign-both c = sym (length-take-le (c .before .before .smaller .result) (c .before .before .before .before .before .before .before .before .before .before .before .before .before .before .before .args .ids .now) (omega (arith, c .before .before .smaller .ensures)))
+
+slice-relend-prefix-assign-both : tie.Need-slice-relend-prefix-assign-both
+slice-relend-prefix-assign-both c = omega (arith, c .before .before .before .before .before .smaller2 .ensures)
+
+slice-aggregate-assign-both-2 : tie.Need-slice-aggregate-assign-both-2
+slice-aggregate-assign-both-2 c = sym (length-take-le (c .before .before .before .before .before .before .smaller2 .result) (c .before .before .before .before .before .before .before .before .before .before .before .before .before .before .before .before .before .before .before .before .args .scores .now) (omega (arith, c .before .before .before .before .before .before .smaller2 .ensures)))
+
+assign-both-requires : tie.Need-assign-both-requires
+assign-both-requires c κs = cut-fits (c .before .before .before .before .before .before .before .before .before .before .before .before .before .before .before .before .before .before .before .before .before .args .ids .now) (c .before .before .before .before .before .before .before .before .before .before .before .before .before .before .before .before .before .before .before .before .before .args .taken .now) (c .before .before .before .before .before .before .before .before .smaller .result) (c .before .before .before .before .before .before .before .before .smaller .ensures)
+
+clear-requires : tie.Need-clear-requires
+clear-requires c κs = search needs
+
+same-length : tie.Need-same-length
+same-length c = c .before .before .before .before .before .before .before .before .before .before .clear .kept .0 ∙ c .before .before .before .before .before .before .before .before .before .before .before .before .before .before .before .before .before .before .before .before .before .before .before .before .before .before .before .before .assign-both .kept .1 .1 .1 .1 .1 .1 .1 .0
+
+same-length-2 : tie.Need-same-length-2
+same-length-2 c = c .before .before .before .before .before .before .before .before .before .before .clear .kept .1 .0 ∙ c .before .before .before .before .before .before .before .before .before .before .before .before .before .before .before .before .before .before .before .before .before .before .before .before .before .before .before .before .assign-both .kept .1 .1 .1 .1 .1 .1 .1 .1 .0
+
+same-length-3 : tie.Need-same-length-3
+same-length-3 c = c .before .before .before .before .before .before .before .before .before .before .clear .kept .1 .1 .0 ∙ c .before .before .before .before .before .before .before .before .before .before .before .before .before .before .before .before .before .before .before .before .before .before .before .before .before .before .before .before .assign-both .kept .1 .1 .1 .1 .1 .1 .1 .1 .1 .0
+
+same-length-4 : tie.Need-same-length-4
+same-length-4 c = c .before .before .before .before .before .before .before .before .before .before .clear .kept .1 .1 .1 .0 ∙ c .before .before .before .before .before .before .before .before .before .before .before .before .before .before .before .before .before .before .before .before .before .before .before .before .before .before .before .before .assign-both .kept .1 .1 .1 .1 .1 .1 .1 .1 .1 .1 .0
+
+same-length-5 : tie.Need-same-length-5
+same-length-5 c = c .before .before .before .before .before .before .before .before .before .before .clear .kept .1 .1 .1 .1 .0 ∙ front-length (c .before .before .before .before .before .before .before .before .before .before .before .before .before .before .before .before .before .before .before .before .before .before .before .before .before .before .before .before .before .before .before .before .before .before .before .before .before .before .before .before .before .before .before .before .before .before .before .before .before .before .args .scores .now) (c .before .before .before .before .before .before .before .before .before .before .before .before .before .before .before .before .before .before .before .before .before .before .before .before .before .before .before .before .assign-both .last .1 .1 .1 .1 .1 .1 .1 .1 .1 .1 .1 .0) (c .before .before .before .before .before .before .before .before .before .before .before .before .before .before .before .before .before .before .before .before .before .before .before .before .before .before .before .before .before .before .before .before .before .before .before .before .smaller2 .result) (omega (arith, c .before .before .before .before .before .before .before .before .before .before .before .before .before .before .before .before .before .before .before .before .before .before .before .before .before .before .before .before .before .before .before .before .before .before .before .before .smaller2 .ensures)) (c .before .before .before .before .before .before .before .before .before .before .before .before .before .before .before .before .before .before .before .before .before .before .before .before .before .before .before .before .assign-both .kept .1 .1 .1 .1 .1 .1 .1 .1 .1 .1 .1 .0)
+
+same-length-6 : tie.Need-same-length-6
+same-length-6 c = c .before .before .before .before .before .before .before .before .before .before .before .before .before .before .before .before .before .before .before .before .before .before .before .before .before .before .before .before .assign-both .kept .1 .1 .1 .1 .1 .1 .1 .1 .1 .1 .1 .1 .0
+
+returns : tie.Need-returns
+returns c =
+    let a = c .before .before .before .before .before .before .before .before .before .before .before .before .before .before .before .before .before .before .before .before .before .before .before .before .before .before .before .before .before .before .before .before .before .before .before .before .before .before .before .before .before .before .before .before .before .before .before .before .before .before .args in
+    let f = c .before .before .before .before .before .before .before .before .before .before .before .before .before .before .before .before .before .before .before .before .before .before .before .before .before .before .before .before .assign-both in
+    let g = c .before .before .before .before .before .before .before .before .before .before .clear in
+    let m = c .before .before .before .before .before .before .before .before .before .before .before .before .before .before .before .before .before .before .before .before .before .before .before .before .before .before .before .before .before .before .before .before .before .before .before .before .smaller2 in
+    let n = c .before .before .before .before .before .before .before .before .before .before .before .before .before .before .before .before .before .before .before .before .before .before .before .before .before .before .before .before .before .before .before .before .before .before .before .before .before .smaller in
+    let d = documents (a .offsets .now) (a .components .now) (a .values .now) in
+    let l : length (take (m .result) (a .scores .now)) ≡ min (length (a .centroids .now)) (length (a .scores .now)) = length-take-le (m .result) (a .scores .now) (omega (arith, m .ensures)) ∙ m .ensures in (
+      assigned-cut d (a .minimum) (a .centroids .now) (a .known .now) (length (a .starts .now)) (length (a .slots .now)) (length (a .weights .now)) (min (length (a .centroids .now)) (length (a .scores .now))) (length (a .counts .now)) (a .ids .now) (a .taken .now) (n .result) (f .last .1 .1 .1 .1 .1 .1 .1 .1 .1 .1 .1 .1 .0) (n .ensures)
+          (f .ensures ∙ ap (λ w. exactRanks d (a .minimum) (a .centroids .now) (a .known .now) (length (a .starts .now)) (length (a .slots .now)) (length (a .weights .now)) w (length (a .counts .now)) (take (n .result) (a .ids .now)) ++ drop (length (take (n .result) (a .ids .now))) (a .taken .now)) l),
+      g .ensures .0 ∙ ap (λ n. replicate n 0) (f .kept .1 .1 .1 .1 .1 .1 .1 .0),
+      g .ensures .1 ∙ ap (λ n. replicate n 0) (f .kept .1 .1 .1 .1 .1 .1 .1 .1 .0),
+      g .ensures .2 ∙ ap (λ n. replicate n 0) (f .kept .1 .1 .1 .1 .1 .1 .1 .1 .1 .0),
+      g .ensures .3 ∙ ap (λ n. replicate n (fin false 0 (pos 0))) (f .kept .1 .1 .1 .1 .1 .1 .1 .1 .1 .1 .0),
+      g .ensures .4 ∙ ap (λ n. replicate n (fin false 0 (pos 0))) (front-length (a .scores .now) (f .last .1 .1 .1 .1 .1 .1 .1 .1 .1 .1 .1 .0) (m .result) (omega (arith, m .ensures)) (f .kept .1 .1 .1 .1 .1 .1 .1 .1 .1 .1 .1 .0)),
+    )
+
+pub assign-spec : {M : Type 1} → statement M
+assign-spec =
+    tie.close
+    (tie.spec
+    smaller-requires
+    smaller-requires-2
+    slice-aggregate-assign-both
+    slice-relend-prefix-assign-both
+    slice-aggregate-assign-both-2
+    assign-both-requires
+    clear-requires
+    same-length
+    same-length-2
+    same-length-3
+    same-length-4
+    same-length-5
+    same-length-6
+    returns)

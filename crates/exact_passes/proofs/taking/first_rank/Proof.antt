@@ -1,0 +1,58 @@
+-- `exact_passes::taking::first_rank` meets its contract. Assumes nothing.
+use Rattle.lists.specs.Lists.{among}
+use mathlib.Core.Bool.{Bool, true, false, cond}
+use Rattle.assignment.specs.Scored.{scoresOf}
+use Rattle.assignment.specs.Nearest.{firstAbove}
+use Rattle.passes.specs.Ranked.{rankIn, listedAt, tookItself}
+use Rattle.documents.specs.Documents.{documents, terms}
+use Rattle.passes.specs.Passes.{Over, over-start, over-read, over-step, over-end}
+use Rattle.exact_passes.specs.Exact.{firstChoice, secondRank}
+use mathlib.Core.Path.{_≡_, refl, sym, ap, _∙_}
+use mathlib.Core.List.{List, [], _∷_, _++_, map, foldl, zipWith}
+use mathlib.Core.Logic.{⊎-elim}
+use Prim.Native.Nat.{ℕ, suc, _+_, _-_, _≤_, _<_}
+use native.Mathlib.Omega.{arith}
+use lib.ListN.{length, getD, set, take, drop, replicate, length-set}
+use borrow.Author.Needs.{needs}
+use Rattle.exact_passes.proofs.taking.first_rank.Statement.{statement}
+use Rattle.exact_passes.proofs.taking.first_rank.Tie as tie
+
+rank-requires : tie.Need-rank-requires
+rank-requires c κs = search needs
+
+is-listed-requires : tie.Need-is-listed-requires
+is-listed-requires c κs = search needs
+
+returns : tie.Need-returns
+returns c = let a = c .before .before .before .before .before .before .before .before .before .before .before .before .args in
+    let e : listedAt (a .known .now) (a .document .0) (rankIn (a .known .now) (a .document .0)) ≡ true = ap (listedAt (a .known .now) (a .document .0)) (sym (c .before .before .rank .ensures)) ∙ sym (c .before .is-listed .ensures) ∙ c .if1 .taken in
+    c .before .before .rank .ensures ∙ ap (rankIn (a .known .now)) (sym (ap (λ b. cond b (a .document .0) (firstAbove (a .centroids .now) (scoresOf (documents (a .starts .now) (a .slots .now) (a .weights .now)) (length (a .scores .now)) (terms (documents (a .offsets .now) (a .components .now) (a .values .now)) (a .document .0))))) e))
+
+nearest-to-requires : tie.Need-nearest-to-requires
+nearest-to-requires c κs = search needs
+
+rank-requires-2 : tie.Need-rank-requires-2
+rank-requires-2 c κs = search needs
+
+same-length : tie.Need-same-length
+same-length c = search needs
+
+returns-2 : tie.Need-returns-2
+returns-2 c = let a = c .before .before .before .before .before .before .before .before .before .before .before .before .before .before .before .before .before .args in
+    let e : listedAt (a .known .now) (a .document .0) (rankIn (a .known .now) (a .document .0)) ≡ false = ap (listedAt (a .known .now) (a .document .0)) (sym (c .before .before .before .before .before .before .before .rank .ensures)) ∙ sym (c .before .before .before .before .before .before .is-listed .ensures) ∙ c .before .before .before .before .before .if1 .left in
+    c .rank2 .ensures
+    ∙ ap (rankIn (a .known .now))
+    (c .before .before .before .nearest-to .ensures .1 ∙ ap (firstAbove (a .centroids .now)) (c .before .before .before .nearest-to .ensures .0)
+    ∙ sym (ap (λ b. cond b (a .document .0) (firstAbove (a .centroids .now) (scoresOf (documents (a .starts .now) (a .slots .now) (a .weights .now)) (length (a .scores .now)) (terms (documents (a .offsets .now) (a .components .now) (a .values .now)) (a .document .0))))) e))
+
+pub first-rank-spec : {M : Type 1} → statement M
+first-rank-spec =
+    tie.close
+    (tie.spec
+    rank-requires
+    is-listed-requires
+    returns
+    nearest-to-requires
+    rank-requires-2
+    same-length
+    returns-2)

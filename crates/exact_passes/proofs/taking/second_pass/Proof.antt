@@ -1,0 +1,97 @@
+-- `exact_passes::taking::second_pass` meets its contract. Assumes nothing.
+use Rattle.lists.specs.Lists.{among}
+use mathlib.Core.Bool.{Bool, true, false, cond}
+use Rattle.assignment.specs.Scored.{scoresOf}
+use Rattle.assignment.specs.Nearest.{firstAbove}
+use Rattle.passes.specs.Ranked.{rankIn, listedAt, tookItself}
+use Rattle.documents.specs.Documents.{documents, terms}
+use Rattle.passes.specs.Passes.{Over, over-start, over-read, over-step, over-end}
+use Rattle.exact_passes.specs.Exact.{firstChoice, secondRank}
+use mathlib.Core.Path.{_≡_, refl, sym, ap, _∙_}
+use mathlib.Core.List.{List, [], _∷_, _++_, map, foldl, zipWith}
+use mathlib.Core.Logic.{⊎-elim}
+use Prim.Native.Nat.{ℕ, suc, _+_, _-_, _≤_, _<_}
+use native.Mathlib.Omega.{arith}
+use lib.ListN.{length, getD, set, take, drop, replicate, length-set}
+use borrow.Author.Needs.{needs}
+use Rattle.exact_passes.proofs.taking.second_pass.Statement.{statement}
+use Rattle.exact_passes.proofs.taking.second_pass.Tie as tie
+
+abbrev Inv-loop : tie.InvT-loop
+Inv-loop offsets components values ids minimum centroids known counts starts slots weights scores₀ taken₀ i₀ scores taken i = (length scores ≡ length scores₀) × (length taken ≡ length taken₀) × (i ≤ length ids) × Over (secondRank known counts minimum centroids (documents starts slots weights) (length scores₀) (documents offsets components values)) ids taken₀ i taken
+
+abbrev μ-loop : tie.MeasureT-loop
+μ-loop offsets components values ids minimum centroids known counts starts slots weights scores₀ taken₀ i₀ scores taken i = length ids - i
+
+loop-holds : tie.Need-loop-holds Inv-loop μ-loop
+loop-holds c = let a = c .before .before .before .before .before .before .before .before .before .before .before .before .args in (refl, refl, search needs, over-start (secondRank (a .known .now) (a .counts .now) (a .minimum) (a .centroids .now) (documents (a .starts .now) (a .slots .now) (a .weights .now)) (length (a .scores .now)) (documents (a .offsets .now) (a .components .now) (a .values .now))) (a .ids .now) (a .taken .now))
+
+mul-own : tie.Need-mul-own Inv-loop μ-loop
+mul-own c = search needs
+
+slice-read-own : tie.Need-slice-read-own Inv-loop μ-loop
+slice-read-own c = search needs
+
+mul-t16 : tie.Need-mul-t16 Inv-loop μ-loop
+mul-t16 c = search needs
+
+shared-slice-read-t21 : tie.Need-shared-slice-read-t21 Inv-loop μ-loop
+shared-slice-read-t21 c = search needs
+
+second-rank-requires : tie.Need-second-rank-requires Inv-loop μ-loop
+second-rank-requires c κs = search needs
+
+mul-taken : tie.Need-mul-taken Inv-loop μ-loop
+mul-taken c = search needs
+
+slice-write-taken : tie.Need-slice-write-taken Inv-loop μ-loop
+slice-write-taken c = search needs
+
+add-i : tie.Need-add-i Inv-loop μ-loop
+add-i c = search needs
+
+loop-less : tie.Need-loop-less Inv-loop μ-loop
+loop-less c = search needs
+
+loop-again : tie.Need-loop-again Inv-loop μ-loop
+loop-again c = let l = c .before .before .before .before .before .before .before .loop in let a = c .before .before .before .before .before .before .before .before .before .before .before .before .before .before .before .before .before .before .before .before .args in
+    let f : ℕ → ℕ → ℕ = (secondRank (a .known .now) (a .counts .now) (a .minimum) (a .centroids .now) (documents (a .starts .now) (a .slots .now) (a .weights .now)) (length (a .scores .now)) (documents (a .offsets .now) (a .components .now) (a .values .now))) in (
+      search needs,
+      search needs,
+      search needs,
+      ap (set (l .taken) (l .i))
+          (c .before .before .second-rank .ensures
+          ∙ ap (λ n. secondRank (a .known .now) (a .counts .now) (a .minimum) (a .centroids .now) (documents (a .starts .now) (a .slots .now) (a .weights .now)) n (documents (a .offsets .now) (a .components .now) (a .values .now)) (getD (a .ids .now) (l .i) 0) (getD (l .taken) (l .i) 0)) (l .inv .0)
+          ∙ ap (f (getD (a .ids .now) (l .i) 0)) (over-read f (a .ids .now) (a .taken .now) (l .taken) (l .i) (l .inv .3) (c .before .before .before .before .before .before .loop-test .taken)))
+          ∙ over-step f (a .ids .now) (a .taken .now) (l .taken) (l .i) (l .inv .3) (c .before .before .before .before .before .before .loop-test .taken) (omega (arith, c .before .before .before .before .before .before .before .before .before .before .before .before .before .before .before .before .before .before .before .before .pre, c .before .before .before .before .before .before .loop-test .taken)),
+    )
+
+same-length : tie.Need-same-length Inv-loop μ-loop
+same-length c = search needs
+
+same-length-2 : tie.Need-same-length-2 Inv-loop μ-loop
+same-length-2 c = search needs
+
+returns : tie.Need-returns Inv-loop μ-loop
+returns c = let l = c .before .loop in let a = c .before .before .before .before .before .before .before .before .before .before .before .before .before .before .args in over-end (secondRank (a .known .now) (a .counts .now) (a .minimum) (a .centroids .now) (documents (a .starts .now) (a .slots .now) (a .weights .now)) (length (a .scores .now)) (documents (a .offsets .now) (a .components .now) (a .values .now))) (a .ids .now) (a .taken .now) (l .taken) (l .i) (l .inv .3) (omega (arith, l .inv .2, c .loop-test .left))
+
+pub second-pass-spec : {M : Type 1} → statement M
+second-pass-spec =
+    tie.close
+    (tie.spec
+    Inv-loop
+    μ-loop
+    loop-holds
+    mul-own
+    slice-read-own
+    mul-t16
+    shared-slice-read-t21
+    second-rank-requires
+    mul-taken
+    slice-write-taken
+    add-i
+    loop-less
+    loop-again
+    same-length
+    same-length-2
+    returns)

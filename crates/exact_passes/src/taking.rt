@@ -1,0 +1,161 @@
+// The documents taken, pass by pass: the first greatest score above 0 decides, and a listed centroid takes itself the first time.
+use names::DocumentId;
+use ranking::is_listed;
+use ranking::rank;
+use ranking::took_itself;
+ghost use mathlib.Core.Path.{_≡_};
+ghost use Prim.Native.Nat.{_≤_};
+ghost use lib.ListN.{length};
+ghost use Rattle.documents.specs.Documents.{documents};
+ghost use Rattle.passes.specs.Ranked.{rankIn};
+ghost use Rattle.passes.specs.Passes.{over};
+ghost use Rattle.exact_passes.specs.Exact.{firstChoice, secondRank};
+
+// The rank of the centroid that takes a document the first time: a listed centroid takes itself.
+fn first_rank(
+    offsets: &[u64],
+    components: &[u32],
+    values: &[f32],
+    document: DocumentId,
+    centroids: &[u64],
+    known: &[u64],
+    starts: &[u64],
+    slots: &[u64],
+    weights: &[f32],
+    scores: &mut [f32],
+) -> u64
+    ensures { λ r. ⌜ r ≡ rankIn (now (known .entry)) (firstChoice (now (known .entry)) (now (centroids .entry)) (documents (now (starts .entry)) (now (slots .entry)) (now (weights .entry))) (length (now (scores .entry)))
+        (documents (now (offsets .entry)) (now (components .entry)) (now (values .entry))) (document .0)) ⌝ }
+{
+    let own = rank(known, document);
+    if is_listed(known, document, own) {
+        return own;
+    }
+    let c = assignment::nearest_to(
+        offsets,
+        components,
+        values,
+        document,
+        centroids,
+        starts,
+        slots,
+        weights,
+        scores,
+    );
+    rank(known, c)
+}
+
+// Takes each document for the first time.
+pub(crate) fn first_pass(
+    offsets: &[u64],
+    components: &[u32],
+    values: &[f32],
+    ids: &[u64],
+    centroids: &[u64],
+    known: &[u64],
+    starts: &[u64],
+    slots: &[u64],
+    weights: &[f32],
+    scores: &mut [f32],
+    taken: &mut [u64],
+)
+    requires { ⌜ length (now ids) ≤ length (now taken) ⌝ }
+    ensures { λ _. ⌜ now (taken .exit) ≡ over (λ i r. rankIn (now (known .entry)) (firstChoice (now (known .entry)) (now (centroids .entry)) (documents (now (starts .entry)) (now (slots .entry)) (now (weights .entry))) (length (now (scores .entry)))
+        (documents (now (offsets .entry)) (now (components .entry)) (now (values .entry))) i)) (now (ids .entry)) (now (taken .entry)) ⌝ }
+{
+    let mut i = 0usize;
+    while i < ids.len() {
+        taken[i] = first_rank(
+            offsets,
+            components,
+            values,
+            DocumentId(ids[i]),
+            centroids,
+            known,
+            starts,
+            slots,
+            weights,
+            scores,
+        );
+        i += 1;
+    }
+}
+
+// The rank of the centroid that takes a document in the end. Only a document that took itself can change: of any other the first
+// centroid with the greatest score above 0 is the one that has it.
+fn second_rank(
+    offsets: &[u64],
+    components: &[u32],
+    values: &[f32],
+    document: DocumentId,
+    own: u64,
+    minimum: u64,
+    centroids: &[u64],
+    known: &[u64],
+    counts: &[u64],
+    starts: &[u64],
+    slots: &[u64],
+    weights: &[f32],
+    scores: &mut [f32],
+) -> u64
+    ensures { λ r. ⌜ r ≡ secondRank (now (known .entry)) (now (counts .entry)) minimum (now (centroids .entry)) (documents (now (starts .entry)) (now (slots .entry)) (now (weights .entry))) (length (now (scores .entry)))
+        (documents (now (offsets .entry)) (now (components .entry)) (now (values .entry))) (document .0) own ⌝ }
+{
+    if took_itself(known, counts, minimum, document, own) {
+        let c = assignment::nearest_to(
+            offsets,
+            components,
+            values,
+            document,
+            centroids,
+            starts,
+            slots,
+            weights,
+            scores,
+        );
+        return rank(known, c);
+    }
+    own
+}
+
+// Takes the documents of dissolved groups again.
+pub(crate) fn second_pass(
+    offsets: &[u64],
+    components: &[u32],
+    values: &[f32],
+    ids: &[u64],
+    minimum: u64,
+    centroids: &[u64],
+    known: &[u64],
+    counts: &[u64],
+    starts: &[u64],
+    slots: &[u64],
+    weights: &[f32],
+    scores: &mut [f32],
+    taken: &mut [u64],
+)
+    requires { ⌜ length (now ids) ≤ length (now taken) ⌝ }
+    ensures { λ _. ⌜ now (taken .exit) ≡ over (secondRank (now (known .entry)) (now (counts .entry)) minimum (now (centroids .entry)) (documents (now (starts .entry)) (now (slots .entry)) (now (weights .entry))) (length (now (scores .entry)))
+        (documents (now (offsets .entry)) (now (components .entry)) (now (values .entry)))) (now (ids .entry)) (now (taken .entry)) ⌝ }
+{
+    let mut i = 0usize;
+    while i < ids.len() {
+        let own = taken[i];
+        taken[i] = second_rank(
+            offsets,
+            components,
+            values,
+            DocumentId(ids[i]),
+            own,
+            minimum,
+            centroids,
+            known,
+            counts,
+            starts,
+            slots,
+            weights,
+            scores,
+        );
+        i += 1;
+    }
+}

@@ -1,0 +1,60 @@
+-- The loop keeps: what has been seen and what is left come to the whole. Assumes nothing.
+use mathlib.Core.Path.{_≡_, refl, sym, ap, _∙_}
+use Prim.Native.Nat.{_≤_, _-_}
+use native.Mathlib.Omega.{arith}
+use mathlib.Core.Bool.{_&&_}
+use lib.ListN.{length, drop}
+use borrow.Author.Needs.{needs}
+use Rattle.expected.specs.Held.{held}
+use Rattle.expected.proofs.Laws.{held-step, held-end}
+use Rattle.expected.proofs.same_longs.Statement.{statement}
+use Rattle.expected.proofs.same_longs.Tie as tie
+
+abbrev Inv-loop : tie.InvT-loop
+Inv-loop longs expected rest same₀ i₀ same i = (i ≤ length longs) × (same && held (drop i longs) (drop i expected) rest ≡ held longs expected rest)
+
+abbrev μ-loop : tie.MeasureT-loop
+μ-loop longs expected rest same₀ i₀ same i = length longs - i
+
+loop-holds : tie.Need-loop-holds Inv-loop μ-loop
+loop-holds c = (omega arith, refl)
+
+mul-same : tie.Need-mul-same Inv-loop μ-loop
+mul-same c = search needs
+
+shared-slice-read-same : tie.Need-shared-slice-read-same Inv-loop μ-loop
+shared-slice-read-same c = search needs
+
+wanted-requires : tie.Need-wanted-requires Inv-loop μ-loop
+wanted-requires c κs = search needs
+
+cast-same : tie.Need-cast-same Inv-loop μ-loop
+cast-same c = search needs
+
+add-i : tie.Need-add-i Inv-loop μ-loop
+add-i c = search needs
+
+loop-less : tie.Need-loop-less Inv-loop μ-loop
+loop-less c = search needs
+
+loop-again : tie.Need-loop-again Inv-loop μ-loop
+loop-again c = let l = c .before .before .before .loop in let a = c .before .before .before .before .before .before .args in (omega arith, held-step (a .longs .now) (a .expected .now) (a .rest) (l .i) (l .same) _ (c .wanted .result) (omega arith) refl (c .wanted .ensures) (l .inv .1))
+
+returns : tie.Need-returns Inv-loop μ-loop
+returns c = let l = c .before .loop in let a = c .before .before .before .before .args in held-end (a .longs .now) (a .expected .now) (a .rest) (l .i) (l .same) (omega arith) (l .inv .1)
+
+pub same-longs-spec : {M : Type 1} → statement M
+same-longs-spec =
+    tie.close
+    (tie.spec
+    Inv-loop
+    μ-loop
+    loop-holds
+    mul-same
+    shared-slice-read-same
+    wanted-requires
+    cast-same
+    add-i
+    loop-less
+    loop-again
+    returns)

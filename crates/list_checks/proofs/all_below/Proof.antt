@@ -1,0 +1,32 @@
+-- `list_checks::all_below` meets its contract: an id of 16 bits is below a greater number. Assumes nothing.
+use Prim.Native.Nat.{ℕ, zero, suc, _<_}
+use native.Mathlib.Omega.{arith}
+use mathlib.Core.Path.{_≡_, refl, sym}
+use mathlib.Core.Bool.{true, _&&_}
+use mathlib.Core.List.{List, [], _∷_}
+use lib.ListN.{getD}
+use lib.Dec.{ltb}
+use borrow.Author.Needs.{needs}
+use borrow.Author.Tests.{lt-ltb}
+use Rattle.lists.specs.Lists.{every}
+use Rattle.list_checks.proofs.all_below.Statement.{statement}
+use Rattle.list_checks.proofs.all_below.Tie as tie
+
+narrow-below : (ids : List ℕ) (n : ℕ) → ((k : ℕ) → getD ids k 0 < 65536) → 65535 < n → true ≡ every (λ i. ltb i n) ids
+narrow-below [] n f h = refl
+narrow-below (i ∷ ids) n f h = let e = narrow-below ids n (λ k. f (suc k)) h in rw (lt-ltb i n (let a = f 0 in omega arith)) e
+
+returns : tie.Need-returns
+returns c = narrow-below (c .before .before .args .ids .now) _ (λ k. omega (arith, c .before .shared-slice-known .given k)) (omega arith)
+
+cast-all-under : tie.Need-cast-all-under
+cast-all-under c = search needs
+
+all-under-requires : tie.Need-all-under-requires
+all-under-requires c κs = search needs
+
+returns-2 : tie.Need-returns-2
+returns-2 c = search needs
+
+pub all-below-spec : {M : Type 1} → statement M
+all-below-spec = tie.close (tie.spec returns cast-all-under all-under-requires returns-2)

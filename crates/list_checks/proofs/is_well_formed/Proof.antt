@@ -1,0 +1,42 @@
+-- `list_checks::is_well_formed` meets its contract. Its parts are those of the definition; where the offsets hold, counting decides whether ids rise. Assumes nothing.
+use Rattle.list_checks.proofs.Parts.{all-hold}
+use borrow.Author.Needs.{needs}
+use Rattle.list_checks.proofs.is_well_formed.Statement.{statement}
+use Rattle.list_checks.proofs.is_well_formed.Tie as tie
+
+add-even : tie.Need-add-even
+add-even c = search needs
+
+blocks-hold-requires : tie.Need-blocks-hold-requires
+blocks-hold-requires c κs = search needs
+
+strictly-rise-requires : tie.Need-strictly-rise-requires
+strictly-rise-requires c κs = search needs
+
+offsets-hold-requires : tie.Need-offsets-hold-requires
+offsets-hold-requires c κs = search needs
+
+ids-hold-requires : tie.Need-ids-hold-requires
+ids-hold-requires c κs = search needs
+
+minimums-hold-requires : tie.Need-minimums-hold-requires
+minimums-hold-requires c κs = search needs
+
+steps-hold-requires : tie.Need-steps-hold-requires
+steps-hold-requires c κs = search needs
+
+returns : tie.Need-returns
+returns c = let a = c .before .before .before .before .before .before .before .before .before .before .before .before .before .args in all-hold (a .postings) (a .block-offsets .now) (a .components .now) (a .offsets .now) (a .ids .now) (a .codes .now) (a .minimums .now) (a .steps .now) _ _ _ _ _ _ (c .before .before .before .before .before .blocks-hold .ensures) (c .before .before .before .before .strictly-rise .ensures) (c .before .before .before .offsets-hold .ensures) (c .before .before .ids-hold .ensures) (c .before .minimums-hold .ensures) (c .steps-hold .ensures)
+
+pub is-well-formed-spec : {M : Type 1} → statement M
+is-well-formed-spec =
+    tie.close
+    (tie.spec
+    add-even
+    blocks-hold-requires
+    strictly-rise-requires
+    offsets-hold-requires
+    ids-hold-requires
+    minimums-hold-requires
+    steps-hold-requires
+    returns)

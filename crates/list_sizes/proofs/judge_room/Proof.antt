@@ -1,0 +1,21 @@
+-- `judge_room` gives the sizes, or 4. Assumes nothing.
+use lib.ListN.{length}
+use Rattle.list_sizes.proofs.Laws.{room-refused, room-found}
+use borrow.Author.Needs.{needs}
+use Rattle.list_sizes.proofs.judge_room.Statement.{statement}
+use Rattle.list_sizes.proofs.judge_room.Tie as tie
+
+sizes-of-requires : tie.Need-sizes-of-requires
+sizes-of-requires c κs = search needs
+
+block-count-requires : tie.Need-block-count-requires
+block-count-requires c κs = search needs
+
+returns : tie.Need-returns
+returns c = let a = c .before .before .before .before .before .before .before .before .before .before .before .before .before .before .before .before .args in room-refused (a .postings) (a .offsets) _ _ _ (a .counts .now) (a .lent) (c .before .before .before .before .before .before .before .before .before .before .before .before .before .before .sizes-of .ensures .0) (c .before .before .before .before .before .before .before .before .before .before .before .before .before .before .sizes-of .ensures .1) (c .before .before .before .before .before .before .before .before .before .before .before .before .before .block-count .ensures) (c .if1 .taken)
+
+returns-2 : tie.Need-returns-2
+returns-2 c = let a = c .before .before .before .before .before .before .before .before .before .before .before .before .before .before .before .before .args in room-found (a .postings) (a .offsets) _ _ _ (a .counts .now) (a .lent) (c .before .before .before .before .before .before .before .before .before .before .before .before .before .before .sizes-of .ensures .0) (c .before .before .before .before .before .before .before .before .before .before .before .before .before .before .sizes-of .ensures .1) (c .before .before .before .before .before .before .before .before .before .before .before .before .before .block-count .ensures) (c .if1 .left)
+
+pub judge-room-spec : {M : Type 1} → statement M
+judge-room-spec = tie.close (tie.spec sizes-of-requires block-count-requires returns returns-2)

@@ -1,0 +1,57 @@
+-- `reasons::probe_to`: from what the postings before it left. Assumes nothing.
+use Rattle.kept_list.specs.Lent.{lent}
+use Rattle.probing.specs.Probed.{terms, lends}
+use Rattle.reasons.proofs.Fates.{fated-in}
+use borrow.Author.Needs.{needs}
+use Rattle.reasons.proofs.probe_to.Statement.{statement}
+use Rattle.reasons.proofs.probe_to.Tie as tie
+use Rattle.reasons.proofs.probe_to.Reads as reads
+use Rattle.reasons.proofs.probe_to.Lts as lts
+use Rattle.probing.proofs.probe.Reads as probe-reads
+use Rattle.reasons.proofs.reached_fate.Reads as reached-fate-reads
+use Rattle.held.proofs.offset_at.Reads as offset-at-reads
+
+slice-aggregate-probe : tie.Need-slice-aggregate-probe
+slice-aggregate-probe c = search needs
+
+slice-aggregate-probe-2 : tie.Need-slice-aggregate-probe-2
+slice-aggregate-probe-2 c = search needs
+
+slice-aggregate-probe-3 : tie.Need-slice-aggregate-probe-3
+slice-aggregate-probe-3 c = search needs
+
+probe-requires : tie.Need-probe-requires
+probe-requires c κs = search needs
+
+offset-at-requires : tie.Need-offset-at-requires
+offset-at-requires c κs = search needs
+
+reached-fate-requires : tie.Need-reached-fate-requires
+reached-fate-requires c κs = search needs
+
+same-length : tie.Need-same-length
+same-length c = search needs
+
+same-length-2 : tie.Need-same-length-2
+same-length-2 c = search needs
+
+same-length-3 : tie.Need-same-length-3
+same-length-3 c = search needs
+
+returns : tie.Need-returns
+returns c = let a = c .before .before .before .before .before .before .before .before .before .before .before .before .before .before .before .before .before .before .before .before .before .before .before .before .before .args in fated-in (a .k) (a .factor) (terms (a .asked .now) (a .weights .now) (a .components .now) (a .values .now)) (a .postings .now) (a .first) (a .score) (a .position) (lends (lent (a .length .now) (a .packed .now) (a .scores .now)) (a .visits .now)) _ _ _ (c .before .before .before .before .before .before .before .before .before .probe .ensures) (c .before .before .offset-at .ensures) (c .reached-fate .ensures)
+
+pub probe-to-spec : {M : Type 1} → statement M
+probe-to-spec =
+    tie.close
+    (tie.spec
+    slice-aggregate-probe
+    slice-aggregate-probe-2
+    slice-aggregate-probe-3
+    probe-requires
+    offset-at-requires
+    reached-fate-requires
+    same-length
+    same-length-2
+    same-length-3
+    returns)

@@ -1,0 +1,29 @@
+-- `reasons::probed_block`: the block of the turn that was taken. Assumes nothing.
+use mathlib.Core.Path.{sym, ap}
+use Rattle.reasons.specs.Reasons.{probedBlock}
+use Rattle.reasons.proofs.Fates.{probed-is}
+use borrow.Author.Needs.{needs}
+use Rattle.reasons.proofs.probed_block.Statement.{statement}
+use Rattle.reasons.proofs.probed_block.Tie as tie
+use Rattle.reasons.proofs.probed_block.Reads as reads
+use Rattle.reasons.proofs.probed_block.Lts as lts
+use Rattle.held.proofs.offset_at.Reads as offset-at-reads
+
+enum-told : tie.Need-enum-told
+enum-told c = search needs
+
+enum-known-turn : tie.Need-enum-known-turn
+enum-known-turn c = search needs
+
+offset-at-requires : tie.Need-offset-at-requires
+offset-at-requires c κs = search needs
+
+returns : tie.Need-returns
+returns c = let a = c .before .before .before .args in ap (probedBlock (a .blocks .now)) (sym (c .enum-told .given .1))
+
+returns-2 : tie.Need-returns-2
+returns-2 c = let a = c .before .before .before .before .before .before .args in probed-is (a .blocks .now) (a .turn) (c .before .before .before .turn .given .0 .0) _ (c .before .before .before .turn .given .1) (c .offset-at .ensures)
+
+pub probed-block-spec : {M : Type 1} → statement M
+probed-block-spec =
+    tie.close (tie.spec enum-told enum-known-turn offset-at-requires returns returns-2)

@@ -1,0 +1,45 @@
+-- `reasons::see_turn`: the turn from what the turns before it left. Assumes nothing.
+use Rattle.kept_list.specs.Lent.{lent}
+use Rattle.probing.specs.Probed.{terms, lends}
+use Rattle.reasons.proofs.Turns.{turn-seen}
+use borrow.Author.Needs.{needs}
+use Rattle.reasons.proofs.see_turn.Statement.{statement}
+use Rattle.reasons.proofs.see_turn.Tie as tie
+use Rattle.reasons.proofs.see_turn.Reads as reads
+use Rattle.reasons.proofs.see_turn.Lts as lts
+use Rattle.probing.proofs.probe.Reads as probe-reads
+use Rattle.reasons.proofs.seen_by.Reads as seen-by-reads
+use Rattle.reasons.proofs.turn_at.Reads as turn-at-reads
+
+probe-requires : tie.Need-probe-requires
+probe-requires c κs = search needs
+
+turn-at-requires : tie.Need-turn-at-requires
+turn-at-requires c κs = search needs
+
+seen-by-requires : tie.Need-seen-by-requires
+seen-by-requires c κs = search needs
+
+same-length : tie.Need-same-length
+same-length c = search needs
+
+same-length-2 : tie.Need-same-length-2
+same-length-2 c = search needs
+
+same-length-3 : tie.Need-same-length-3
+same-length-3 c = search needs
+
+returns : tie.Need-returns
+returns c = let a = c .before .before .before .before .before .before .before .before .before .before .before .before .before .before .before .before .before .before .before .before .before .before .before .before .before .before .args in turn-seen (a .k) (a .factor) (terms (a .asked .now) (a .weights .now) (a .components .now) (a .values .now)) (a .postings .now) (a .blocks .now) (a .dots .now) (a .order .now) (a .at) (lends (lent (a .length .now) (a .packed .now) (a .scores .now)) (a .visits .now)) _ _ _ (c .before .before .before .before .before .before .before .before .before .before .probe .ensures) (c .before .turn-at .ensures) (c .seen-by .ensures)
+
+pub see-turn-spec : {M : Type 1} → statement M
+see-turn-spec =
+    tie.close
+    (tie.spec
+    probe-requires
+    turn-at-requires
+    seen-by-requires
+    same-length
+    same-length-2
+    same-length-3
+    returns)

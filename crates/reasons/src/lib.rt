@@ -1,0 +1,349 @@
+// Why a posting of a list is kept or not, told from what a search left for inspection: the blocks' scores and the order of their turns.
+// The turns before a moment are taken again, from the kept list and the visit bytes that the search began with; so what is held at that
+// moment is the search's own.
+use names::BlockNumber;
+use packing::PackedPosting;
+use probing::Answer;
+ghost use mathlib.Core.Path.{_≡_};
+ghost use lib.ListN.{take};
+ghost use Rattle.lists.specs.Lists.{among};
+ghost use Rattle.kept_list.specs.Lent.{lent};
+ghost use Rattle.probing.specs.Probed.{terms, lends};
+ghost use Rattle.reasons.specs.Turns.{turnAt, seenBy, seen, turnSeen};
+ghost use Rattle.reasons.specs.Reasons.{holds, turnOf, reachedFate, searched, turnFate, probedBlock, fated, fatedIn, fateOf};
+
+// A block's turn: whether k were kept, the block's score, the bar that it had to reach, which is the factor times the worst kept score,
+// and whether it was skipped.
+pub struct Turn {
+    pub block: BlockNumber,
+    pub full: bool,
+    pub score: f32,
+    pub bar: f32,
+    pub skipped: bool,
+}
+
+// A search that is refused or stopped before a turn does not take it.
+pub enum TurnSeen {
+    NotTaken,
+    Taken(Turn),
+}
+
+// What became of a posting. One that is read is evaluated, unless the search stops at it.
+pub enum Fate {
+    InNoBlock,
+    NotReached,
+    Skipped { score: f32, bar: f32 },
+    VisitedBefore,
+    Read,
+}
+
+// The turn, from what is kept when it comes.
+fn turn_at(
+    at: u64,
+    k: u64,
+    factor: f32,
+    dots: &[f32],
+    order: &[u64],
+    length: u64,
+    scores: &[f32],
+) -> Turn
+    ensures { λ r. ⌜ r ≡ turnAt k factor (now (dots .entry)) (now (order .entry)) at length (now (scores .entry)) ⌝ }
+{
+    let block = held::number_at(order, at);
+    let score = held::dot_at(dots, block.0 as usize);
+    let worst = held::worst_kept(length, scores);
+    let skipped = turns::skips(k, factor, score, length, worst);
+    Turn {
+        block,
+        full: length == k,
+        score,
+        bar: factor * worst,
+        skipped,
+    }
+}
+
+// A turn is taken where nothing stopped those before it.
+fn seen_by(answer: Answer, turn: Turn) -> TurnSeen
+    ensures { λ r. ⌜ r ≡ seenBy answer turn ⌝ }
+{
+    match answer {
+        Answer::Found {
+            kept: _,
+            evaluated: _,
+            skipped: _,
+        } => TurnSeen::Taken(turn),
+        Answer::Stopped {
+            reason: _,
+            position: _,
+        } => TurnSeen::NotTaken,
+        Answer::Refused(_) => TurnSeen::NotTaken,
+    }
+}
+
+// The turn with this number, counted from 0. The turns before it are taken, so that the kept list and the visit bytes are left as they
+// are when it comes.
+pub fn see_turn(
+    at: u64,
+    asked: &[u32],
+    weights: &[f32],
+    k: u64,
+    factor: f32,
+    components: &[u32],
+    values: &[f32],
+    postings: &[u64],
+    blocks: &[u64],
+    dots: &[f32],
+    order: &[u64],
+    length: &mut u64,
+    packed: &mut [u64],
+    scores: &mut [f32],
+    visits: &mut [u8],
+) -> TurnSeen
+    ensures { λ r. ⌜ seen r (lends (lent (now (length .exit)) (now (packed .exit)) (now (scores .exit))) (now (visits .exit)))
+        ≡ turnSeen k factor (terms (now (asked .entry)) (now (weights .entry)) (now (components .entry)) (now (values .entry))) (now (postings .entry)) (now (blocks .entry)) (now (dots .entry)) (now (order .entry)) at
+        (lends (lent (now (length .entry)) (now (packed .entry)) (now (scores .entry))) (now (visits .entry))) ⌝ }
+{
+    let answer = probing::probe(
+        asked,
+        weights,
+        k,
+        factor,
+        components,
+        values,
+        postings,
+        blocks,
+        dots,
+        order,
+        at,
+        length,
+        packed,
+        scores,
+        visits,
+    );
+    let held = *length;
+    let then = turn_at(at, k, factor, dots, order, held, scores);
+    seen_by(answer, then)
+}
+
+// Whether a block holds a position among so many postings.
+fn block_holds(blocks: &[u64], count: usize, position: u64, block: BlockNumber) -> bool
+    ensures { λ r. ⌜ r ≡ holds (now (blocks .entry)) count position (block .0) ⌝ }
+{
+    let at = block.0 as usize;
+    let first = held::offset_at(blocks, at);
+    let end = turns::least(held::end_at(blocks, at), count);
+    (first <= position) & ((position as usize) < end)
+}
+
+// The first of so many turns whose block holds a position; where none does, so many.
+fn turn_of(position: u64, blocks: &[u64], count: usize, order: &[u64], turns: u64) -> u64
+    ensures { λ r. ⌜ r ≡ turnOf (now (blocks .entry)) count (now (order .entry)) turns position ⌝ }
+{
+    let mut t = 0u64;
+    while t < turns {
+        if block_holds(blocks, count, position, held::number_at(order, t)) {
+            return t;
+        }
+        t += 1;
+    }
+    t
+}
+
+// What became of a posting that its block's probing came to.
+fn reached_fate(answer: Answer, posting: PackedPosting, visits: &[u8]) -> Fate
+    ensures { λ r. ⌜ r ≡ reachedFate answer (posting .0) (now (visits .entry)) ⌝ }
+{
+    let visited = turns::is_visited(visits, posting.unpack().start);
+    match answer {
+        Answer::Found {
+            kept: _,
+            evaluated: _,
+            skipped: _,
+        } => {
+            if visited {
+                Fate::VisitedBefore
+            } else {
+                Fate::Read
+            }
+        }
+        Answer::Stopped {
+            reason: _,
+            position: _,
+        } => Fate::NotReached,
+        Answer::Refused(_) => Fate::NotReached,
+    }
+}
+
+// What becomes of a posting at the turn of its block, which is not skipped: the postings of the block before it are probed first.
+fn probe_to(
+    first: u64,
+    position: u64,
+    score: f32,
+    asked: &[u32],
+    weights: &[f32],
+    k: u64,
+    factor: f32,
+    components: &[u32],
+    values: &[f32],
+    postings: &[u64],
+    length: &mut u64,
+    packed: &mut [u64],
+    scores: &mut [f32],
+    visits: &mut [u8],
+) -> Fate
+    ensures { λ r. ⌜ fated r (lends (lent (now (length .exit)) (now (packed .exit)) (now (scores .exit))) (now (visits .exit)))
+        ≡ fatedIn k factor (terms (now (asked .entry)) (now (weights .entry)) (now (components .entry)) (now (values .entry))) (now (postings .entry)) first score position
+        (lends (lent (now (length .entry)) (now (packed .entry)) (now (scores .entry))) (now (visits .entry))) ⌝ }
+{
+    let part = [first, position];
+    let dot = [score];
+    let answer = probing::probe(
+        asked,
+        weights,
+        k,
+        factor,
+        components,
+        values,
+        postings,
+        &part,
+        &dot,
+        &postings[..0],
+        1,
+        length,
+        packed,
+        scores,
+        visits,
+    );
+    let posting = held::offset_at(postings, position as usize);
+    reached_fate(answer, PackedPosting(posting), visits)
+}
+
+// Whether a block is searched at its turn.
+fn is_searched(turn: TurnSeen) -> bool
+    ensures { λ r. ⌜ r ≡ searched turn ⌝ }
+{
+    match turn {
+        TurnSeen::NotTaken => false,
+        TurnSeen::Taken(t) => !t.skipped,
+    }
+}
+
+// What becomes of the postings of a block that is not searched at its turn.
+fn turn_fate(turn: TurnSeen) -> Fate
+    ensures { λ r. ⌜ r ≡ turnFate turn ⌝ }
+{
+    match turn {
+        TurnSeen::NotTaken => Fate::NotReached,
+        TurnSeen::Taken(t) => Fate::Skipped {
+            score: t.score,
+            bar: t.bar,
+        },
+    }
+}
+
+// Where a block's postings start, and its score.
+struct Probed {
+    first: u64,
+    score: f32,
+}
+
+fn probed_block(blocks: &[u64], turn: TurnSeen) -> Probed
+    ensures { λ r. ⌜ r ≡ probedBlock (now (blocks .entry)) turn ⌝ }
+{
+    match turn {
+        TurnSeen::NotTaken => Probed {
+            first: 0,
+            score: 0.0,
+        },
+        TurnSeen::Taken(t) => {
+            let block = t.block;
+            let at = block.0 as usize;
+            Probed {
+                first: held::offset_at(blocks, at),
+                score: t.score,
+            }
+        }
+    }
+}
+
+// What became of the posting at a position in a search of so many turns. The turns before its block's are taken, and the postings of the
+// block before it are probed, so that the kept list and the visit bytes are left as they are when it is reached.
+pub fn fate_of(
+    position: u64,
+    turns: u64,
+    asked: &[u32],
+    weights: &[f32],
+    k: u64,
+    factor: f32,
+    components: &[u32],
+    values: &[f32],
+    postings: &[u64],
+    blocks: &[u64],
+    dots: &[f32],
+    order: &[u64],
+    length: &mut u64,
+    packed: &mut [u64],
+    scores: &mut [f32],
+    visits: &mut [u8],
+) -> Fate
+    ensures { λ r. ⌜ fated r (lends (lent (now (length .exit)) (now (packed .exit)) (now (scores .exit))) (now (visits .exit)))
+        ≡ fateOf k factor (terms (now (asked .entry)) (now (weights .entry)) (now (components .entry)) (now (values .entry))) (now (postings .entry)) (now (blocks .entry)) (now (dots .entry)) (now (order .entry)) turns position
+        (lends (lent (now (length .entry)) (now (packed .entry)) (now (scores .entry))) (now (visits .entry))) ⌝ }
+{
+    let at = turn_of(position, blocks, postings.len(), order, turns);
+    if at == turns {
+        return Fate::InNoBlock;
+    }
+    let turn = see_turn(
+        at,
+        asked,
+        weights,
+        k,
+        factor,
+        components,
+        values,
+        postings,
+        blocks,
+        dots,
+        order,
+        length,
+        packed,
+        scores,
+        visits,
+    );
+    if !is_searched(turn) {
+        return turn_fate(turn);
+    }
+    let block = probed_block(blocks, turn);
+    probe_to(
+        block.first,
+        position,
+        block.score,
+        asked,
+        weights,
+        k,
+        factor,
+        components,
+        values,
+        postings,
+        length,
+        packed,
+        scores,
+        visits,
+    )
+}
+
+// Whether a posting is among the first so many.
+pub fn is_kept(posting: PackedPosting, length: u64, packed: &[u64]) -> bool
+    ensures { λ r. ⌜ r ≡ among (posting .0) (take length (now (packed .entry))) ⌝ }
+{
+    let most = turns::least(length, packed.len());
+    let mut i = 0usize;
+    while i < most {
+        if posting.0 == packed[i] {
+            return true;
+        }
+        i += 1;
+    }
+    false
+}

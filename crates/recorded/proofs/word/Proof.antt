@@ -1,0 +1,21 @@
+-- A word past the end is 0. Assumes nothing.
+use native.Mathlib.Omega.{arith}
+use borrow.Author.Needs.{needs}
+use Rattle.recorded.proofs.Laws.{past-end}
+use Rattle.recorded.proofs.word.Statement.{statement}
+use Rattle.recorded.proofs.word.Tie as tie
+
+mul-result : tie.Need-mul-result
+mul-result c = search needs
+
+shared-slice-read-result : tie.Need-shared-slice-read-result
+shared-slice-read-result c = search needs
+
+returns : tie.Need-returns
+returns c = search needs
+
+returns-2 : tie.Need-returns-2
+returns-2 c = let a = c .before .args in past-end (a .words .now) (a .at) 0 (c .if1 .left)
+
+pub word-spec : {M : Type 1} → statement M
+word-spec = tie.close (tie.spec mul-result shared-slice-read-result returns returns-2)

@@ -1,0 +1,77 @@
+-- A recorded build: what it was given, and whether an answer is the recorded one. src/lib.rt says which word is which.
+use Prim.Native.Nat.{ℕ}
+use mathlib.Core.Bool.{Bool, false, _&&_}
+use mathlib.Core.List.{List, [], map}
+use lib.ListN.{length, getD, replicate}
+use lib.Dec.{eqb}
+use lib.Ieee.{Float}
+use Rattle.float32.specs.Key.{keyOf, valueOf}
+use Rattle.configuration.specs.declared.BlockingStrategy.{BlockingStrategy}
+use Rattle.configuration.specs.declared.SummarizationStrategy.{SummarizationStrategy}
+use Rattle.documents.specs.Documents.{Documents, documents}
+use Rattle.building.specs.declared.BuildAnswer.{BuildAnswer}
+use Rattle.building.specs.declared.BuildAnswer.the-variants.{Refused, Built}
+use Rattle.building.specs.Built.{Input, input}
+use Rattle.building.specs.Building.{Outputs, outputs, Scratches, scratches, Lent, lent, Left, builds}
+use Rattle.build_numbers.specs.Chosen.{blockingOf, summarizationOf}
+use Rattle.recorded.specs.Words.{long, sliceAt, spread, itself}
+use Rattle.expected.specs.Held.{held}
+
+-- ---- what it was given
+unfoldable pub blockingIn : List ℕ → BlockingStrategy
+blockingIn w = blockingOf (long w 2) (long w 4) (valueOf (getD w 6 0)) (long w 7) (long w 9)
+
+unfoldable pub summarizationIn : List ℕ → SummarizationStrategy
+summarizationIn w = summarizationOf (long w 11) (long w 13) (valueOf (getD w 15 0))
+
+-- the numbers and the floats that the words stand for
+abbrev pub longs : List ℕ → List ℕ
+longs w = spread itself 1024 w
+
+abbrev pub floats : List ℕ → List Float
+floats w = spread valueOf 1024 w
+
+unfoldable pub inputIn : List ℕ → Input
+inputIn w = input (getD w 1 0) (blockingIn w) (summarizationIn w) (documents (sliceAt w 16 (longs w)) (sliceAt w 17 w) (sliceAt w 18 (floats w))) (sliceAt w 19 (longs w)) (sliceAt w 20 (longs w))
+
+-- the key of 11, which is in the floats before
+abbrev pub oddKey : ℕ
+oddKey = 3241148416
+
+-- what is lent: room enough, and nowhere zero
+unfoldable pub used : Float → Lent
+used odd =
+    lent (outputs (replicate 64 5) (replicate 64 6) (replicate 32 7) (replicate 32 8) (replicate 256 9) (replicate 256 10) (replicate 64 odd) (replicate 64 odd))
+    (scratches (replicate 64 13) (replicate 64 14) (replicate 64 15) (replicate 64 16) (replicate 64 17) (replicate 64 18) (replicate 64 19) (replicate 512 20) (replicate 512 odd) (replicate 64 odd) (replicate 64 23))
+
+-- ---- what it must leave
+abbrev pub sizesHeld : List ℕ → BuildAnswer → Bool
+sizesHeld w (Refused r) = false
+sizesHeld w (Built s) = eqb (s .postings) (length (sliceAt w 21 w)) && eqb (s .offsets) (length (sliceAt w 22 w)) && eqb (s .components) (length (sliceAt w 23 w)) && eqb (s .entries) (length (sliceAt w 25 w)) && eqb (s .summaries) (length (sliceAt w 27 w))
+
+-- the original's numbers in front, and past them what was there before
+abbrev pub numbersHeld : List ℕ → List ℕ → List ℕ → List ℕ → List ℕ → Bool
+numbersHeld w postings offsets components componentOffsets = held postings (sliceAt w 21 w) 5 && held offsets (sliceAt w 22 w) 6 && held components (sliceAt w 23 w) 7 && held componentOffsets (sliceAt w 24 w) 8
+
+abbrev pub entriesHeld : List ℕ → List ℕ → List ℕ → List Float → List Float → Bool
+entriesHeld w ids codes minimums steps = held ids (sliceAt w 25 w) 9 && held codes (sliceAt w 26 w) 10 && held (map keyOf minimums) (sliceAt w 27 w) oddKey && held (map keyOf steps) (sliceAt w 28 w) oddKey
+
+unfoldable pub resultsHeld : List ℕ → Outputs → Bool
+resultsHeld w o = numbersHeld w (o .postings) (o .offsets) (o .components) (o .componentOffsets) && entriesHeld w (o .ids) (o .codes) (o .minimums) (o .steps)
+
+-- zero everywhere
+abbrev pub zero : List ℕ → Bool
+zero xs = held xs [] 0
+
+abbrev pub floatZero : List Float → Bool
+floatZero xs = held (map keyOf xs) [] 2147483648
+
+unfoldable pub cleared : Scratches → Bool
+cleared s = zero (s .order) && zero (s .blocks) && zero (s .sorted) && zero (s .known) && zero (s .taken) && zero (s .counts) && zero (s .starts) && zero (s .slots) && floatZero (s .weights) && floatZero (s .scores) && zero (s .keys)
+
+unfoldable pub agreed : List ℕ → Left → Bool
+agreed w l = sizesHeld w (l .answer) && resultsHeld w (l .lent .output) && cleared (l .lent .scratch)
+
+-- whether a recorded build is what a build means
+unfoldable pub agrees : List ℕ → Bool
+agrees w = agreed w (builds (inputIn w) (used (valueOf oddKey)))

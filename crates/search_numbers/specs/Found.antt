@@ -1,0 +1,36 @@
+-- What a search shows to C: four numbers, and the lent memory as it then lies.
+use Prim.Native.Nat.{ℕ}
+use mathlib.Core.Bool.{cond}
+use mathlib.Core.List.{List}
+use lib.Dec.{eqb}
+use lib.Ieee.{Float}
+use Rattle.probing.specs.declared.Answer.{Answer}
+use Rattle.probing.specs.Probed.{Lends, Left}
+use Rattle.search.specs.Searched.{Question, Searched, SearchedInOrder, searched, searchedInOrder}
+use Rattle.search_numbers.specs.Numbers.{answerNumber, positionOf, evaluatedOf, skippedOf}
+
+pub record Shown : Type 0 where
+  pub number : ℕ
+  pub position : ℕ
+  pub evaluated : ℕ
+  pub skipped : ℕ
+  pub lent : Lends
+  pub scores : List Float
+  pub order : List ℕ
+
+abbrev pub shown : ℕ → ℕ → ℕ → ℕ → Lends → List Float → List ℕ → Shown
+shown n p e s l xs bs = record { number = n; position = p; evaluated = e; skipped = s; lent = l; scores = xs; order = bs }
+
+abbrev pub ofAnswer : Answer → Lends → List Float → List ℕ → Shown
+ofAnswer a l xs bs = shown (answerNumber a) (positionOf a) (evaluatedOf a) (skippedOf a) l xs bs
+
+-- in number order the order places are not looked at
+abbrev pub plain : Searched → List ℕ → Shown
+plain s bs = ofAnswer (s .found .answer) (s .found .lent) (s .scores) bs
+
+abbrev pub sorted : SearchedInOrder → Shown
+sorted s = ofAnswer (s .found .answer) (s .found .lent) (s .scores) (s .order)
+
+-- the choice of the order: 0 for number order, any other number for greater score first
+unfoldable pub seen : ℕ → Question → Lends → List Float → List ℕ → Shown
+seen byScore q l xs bs = cond (eqb byScore 0) (plain (searched q l xs) bs) (sorted (searchedInOrder q l xs bs))

@@ -1,0 +1,34 @@
+-- What building a short list leaves: a build with 64 places in each scratch buffer.
+use Prim.Native.Nat.{ℕ}
+use mathlib.Core.Bool.{false}
+use mathlib.Core.List.{List}
+use lib.ListN.{replicate}
+use lib.IntN.{pos}
+use lib.Ieee.{Float, binary32, ofBits}
+use Rattle.building.specs.declared.BuildAnswer.{BuildAnswer}
+use Rattle.building.specs.Built.{Input}
+use Rattle.building.specs.Building.{Outputs, Scratches, scratches, Left, lent, builds}
+
+abbrev pub places : List ℕ
+places = replicate 64 0
+
+abbrev pub floatPlaces : List Float
+floatPlaces = replicate 64 (ofBits binary32 0)
+
+abbrev pub shortScratch : Scratches
+shortScratch = scratches places places places places places places places places floatPlaces floatPlaces places
+
+-- the answer and the output
+pub record Made : Type 0 where
+  pub answer : BuildAnswer
+  pub output : Outputs
+
+abbrev pub made : BuildAnswer → Outputs → Made
+made a o = record { answer = a; output = o }
+
+-- of what a build leaves
+unfoldable pub madeOf : Left → Made
+madeOf l = made (l .answer) (l .lent .output)
+
+unfoldable pub madeShort : Input → Outputs → Made
+madeShort g o = madeOf (builds g (lent o shortScratch))

@@ -1,0 +1,55 @@
+-- `slot_scores::best_slot` meets its contract. Assumes nothing.
+use mathlib.Core.Path.{_≡_, refl, sym, ap, _∙_}
+use Prim.Native.Nat.{_-_, _+_}
+use mathlib.Core.List.{foldl}
+use lib.ListN.{length, drop}
+use Rattle.counting.specs.Loops.{fold-step, fold-end}
+use Rattle.slot_scores.specs.Met.{better}
+use borrow.Author.Needs.{needs}
+use Rattle.slot_scores.proofs.best_slot.Statement.{statement}
+use Rattle.slot_scores.proofs.best_slot.Tie as tie
+
+abbrev Inv-loop : tie.InvT-loop
+Inv-loop slots scores b₀ i₀ b i = foldl (better scores) b (drop i slots) ≡ foldl (better scores) b₀ slots
+
+abbrev μ-loop : tie.MeasureT-loop
+μ-loop slots scores b₀ i₀ b i = length slots - i
+
+loop-holds : tie.Need-loop-holds Inv-loop μ-loop
+loop-holds c = refl
+
+mul-best-of : tie.Need-mul-best-of Inv-loop μ-loop
+mul-best-of c = search needs
+
+shared-slice-read-best-of : tie.Need-shared-slice-read-best-of Inv-loop μ-loop
+shared-slice-read-best-of c = search needs
+
+best-of-requires : tie.Need-best-of-requires Inv-loop μ-loop
+best-of-requires c κs = search needs
+
+add-i : tie.Need-add-i Inv-loop μ-loop
+add-i c = search needs
+
+loop-less : tie.Need-loop-less Inv-loop μ-loop
+loop-less c = search needs
+
+loop-again : tie.Need-loop-again Inv-loop μ-loop
+loop-again c = let l = c .before .before .before .loop in let a = c .before .before .before .before .before .before .args in ap (λ s. foldl (better (a .scores .now)) s (drop (l .i + 1) (a .slots .now))) (c .best-of .ensures) ∙ fold-step (better (a .scores .now)) (l .b) (a .slots .now) (l .i) 0 (c .before .before .loop-test .taken) ∙ l .inv
+
+returns : tie.Need-returns Inv-loop μ-loop
+returns c = let l = c .before .loop in let a = c .before .before .before .before .args in sym (fold-end (better (a .scores .now)) (l .b) (a .slots .now) (l .i) (c .loop-test .left)) ∙ l .inv
+
+pub best-slot-spec : {M : Type 1} → statement M
+best-slot-spec =
+    tie.close
+    (tie.spec
+    Inv-loop
+    μ-loop
+    loop-holds
+    mul-best-of
+    shared-slice-read-best-of
+    best-of-requires
+    add-i
+    loop-less
+    loop-again
+    returns)

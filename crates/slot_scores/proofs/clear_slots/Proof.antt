@@ -1,0 +1,59 @@
+-- `slot_scores::clear_slots` meets its contract. Assumes nothing.
+use mathlib.Core.Path.{_≡_, refl, sym, ap, _∙_}
+use Prim.Native.Nat.{_-_, _+_}
+use mathlib.Core.List.{foldl}
+use lib.ListN.{length, drop}
+use Rattle.counting.specs.Loops.{fold-step, fold-end}
+use Rattle.slot_scores.specs.Met.{clearAt}
+use borrow.Author.Needs.{needs}
+use Rattle.slot_scores.proofs.clear_slots.Statement.{statement}
+use Rattle.slot_scores.proofs.clear_slots.Tie as tie
+
+abbrev Inv-loop : tie.InvT-loop
+Inv-loop slots scores₀ i₀ scores i = (length scores ≡ length scores₀) × (foldl clearAt scores (drop i slots) ≡ foldl clearAt scores₀ slots)
+
+abbrev μ-loop : tie.MeasureT-loop
+μ-loop slots scores₀ i₀ scores i = length slots - i
+
+loop-holds : tie.Need-loop-holds Inv-loop μ-loop
+loop-holds c = (refl, refl)
+
+mul-clear-slot : tie.Need-mul-clear-slot Inv-loop μ-loop
+mul-clear-slot c = search needs
+
+shared-slice-read-clear-slot : tie.Need-shared-slice-read-clear-slot Inv-loop μ-loop
+shared-slice-read-clear-slot c = search needs
+
+clear-slot-requires : tie.Need-clear-slot-requires Inv-loop μ-loop
+clear-slot-requires c κs = search needs
+
+add-i : tie.Need-add-i Inv-loop μ-loop
+add-i c = search needs
+
+loop-less : tie.Need-loop-less Inv-loop μ-loop
+loop-less c = search needs
+
+loop-again : tie.Need-loop-again Inv-loop μ-loop
+loop-again c = let l = c .before .before .before .before .before .before .loop in let a = c .before .before .before .before .before .before .before .before .before .args in (search needs, ap (λ s. foldl clearAt s (drop (l .i + 1) (a .slots .now))) (c .before .before .clear-slot .ensures) ∙ fold-step clearAt (l .scores) (a .slots .now) (l .i) 0 (c .before .before .before .before .before .loop-test .taken) ∙ l .inv .1)
+
+same-length : tie.Need-same-length Inv-loop μ-loop
+same-length c = search needs
+
+returns : tie.Need-returns Inv-loop μ-loop
+returns c = let l = c .before .loop in let a = c .before .before .before .before .args in sym (fold-end clearAt (l .scores) (a .slots .now) (l .i) (c .loop-test .left)) ∙ l .inv .1
+
+pub clear-slots-spec : {M : Type 1} → statement M
+clear-slots-spec =
+    tie.close
+    (tie.spec
+    Inv-loop
+    μ-loop
+    loop-holds
+    mul-clear-slot
+    shared-slice-read-clear-slot
+    clear-slot-requires
+    add-i
+    loop-less
+    loop-again
+    same-length
+    returns)

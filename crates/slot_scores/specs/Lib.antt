@@ -1,0 +1,7 @@
+pub mod Met
+pub mod Loops
+pub mod Kept
+pub mod Covers
+pub mod Choice
+pub mod Nearest
+pub mod Zeros

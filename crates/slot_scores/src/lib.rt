@@ -1,0 +1,243 @@
+// The centroid that takes a document by its largest terms, found by the entries of the centroids' index that these terms meet: their slots
+// alone are added to, looked at and set back, however many centroids there are. Nothing is assumed of the slices.
+ghost use mathlib.Core.Path.{_≡_};
+ghost use mathlib.Core.List.{map, foldl};
+ghost use Prim.Native.Nat.{_≤_, min};
+ghost use lib.Dec.{leb};
+ghost use lib.ListN.{length};
+ghost use Rattle.documents.specs.Documents.{documents};
+ghost use Rattle.documents.specs.TermKeys.{termOf};
+ghost use Rattle.centroid_index.specs.Index.{addTerms};
+ghost use Rattle.slot_scores.specs.Met.{met, ifBetter, better, bestMet, fromZero, chosen, clearAt, clearMet, chosenBy, setBack, nearestByKeys, scoresAfter};
+use names::CentroidSlot;
+use names::DocumentId;
+
+// A slot with its score.
+struct Best {
+    slot: CentroidSlot,
+    score: f32,
+}
+
+// The best so far, or another slot whose score is greater by total order, or the same at a later slot.
+fn if_better(best: Best, slot: u64, score: f32) -> Best
+    ensures { λ r. ⌜ r ≡ ifBetter best slot score ⌝ }
+{
+    // most are less: they are passed over by one test
+    if !float32::at_most(best.score, score) {
+        return best;
+    }
+    let own = best.slot;
+    if (own.0 < slot) | !float32::at_most(score, best.score) {
+        Best {
+            slot: CentroidSlot(slot),
+            score: score,
+        }
+    } else {
+        best
+    }
+}
+
+// The better of the best so far and a slot with its score. A slot past the scores is passed over.
+fn best_of(best: Best, slot: u64, scores: &[f32]) -> Best
+    ensures { λ r. ⌜ r ≡ better (now (scores .entry)) best slot ⌝ }
+{
+    let s = slot as usize;
+    if s < scores.len() {
+        if_better(best, slot, scores[s])
+    } else {
+        best
+    }
+}
+
+// The best of the best so far and some slots.
+fn best_slot(best: Best, slots: &[u64], scores: &[f32]) -> Best
+    ensures { λ r. ⌜ r ≡ foldl (better (now (scores .entry))) best (now (slots .entry)) ⌝ }
+{
+    let mut b = best;
+    let mut i = 0usize;
+    while i < slots.len() {
+        b = best_of(b, slots[i], scores);
+        i += 1;
+    }
+    b
+}
+
+// The best of the slots that the terms with these keys meet; slot 0 with a score of +0 where none is better.
+fn best_met(starts: &[u64], slots: &[u64], weights: &[f32], keys: &[u64], scores: &[f32]) -> Best
+    ensures { λ r. ⌜ r ≡ bestMet (documents (now (starts .entry)) (now (slots .entry)) (now (weights .entry))) (now (scores .entry)) (map termOf (now (keys .entry))) ⌝ }
+{
+    let mut b = Best {
+        slot: CentroidSlot(0),
+        score: 0.0,
+    };
+    let mut i = 0usize;
+    while i < keys.len() {
+        let component = term_keys::component_of_term_key(keys[i]);
+        let p = centroid_index::entries_of(starts, slots, weights, component);
+        let from = p.from;
+        let to = p.to;
+        b = best_slot(b, &slots[from..to], scores);
+        i += 1;
+    }
+    b
+}
+
+// One past the last slot whose score is at least +0 by total order; 0 where there is none. It takes as many steps as slots after that one.
+fn last_from_zero(scores: &[f32]) -> usize
+    ensures { λ r. ⌜ r ≡ fromZero (now (scores .entry)) (length (now (scores .entry))) ⌝ }
+{
+    let mut k = scores.len();
+    while 0 < k {
+        if float32::at_most(0.0, scores[k - 1]) {
+            return k;
+        }
+        k -= 1;
+    }
+    0
+}
+
+// The centroid of the best slot met, if its score is above +0. Else no score is above +0, and the last slot whose score is at least +0 has
+// the last greatest one: all after it were met. Where there is no such slot every slot was met, and all are looked at.
+fn choose(
+    otherwise: DocumentId,
+    competing: &[u64],
+    starts: &[u64],
+    slots: &[u64],
+    weights: &[f32],
+    keys: &[u64],
+    scores: &[f32],
+) -> DocumentId
+    requires { ⌜ length (now scores) ≤ length (now competing) ⌝ }
+    ensures { λ r. ⌜ r .0 ≡ chosen (otherwise .0) (now (competing .entry)) (documents (now (starts .entry)) (now (slots .entry)) (now (weights .entry)))
+        (now (scores .entry)) (map termOf (now (keys .entry))) ⌝ }
+{
+    let best = best_met(starts, slots, weights, keys, scores);
+    if !float32::at_most(best.score, 0.0) {
+        let slot = best.slot;
+        let at = slot.0 as usize;
+        return DocumentId(competing[at]);
+    }
+    let past = last_from_zero(scores);
+    if past == 0 {
+        return assignment::last_greatest(otherwise, competing, scores);
+    }
+    DocumentId(competing[past - 1])
+}
+
+// Sets the score of a slot to +0.
+fn clear_slot(slot: u64, scores: &mut [f32])
+    ensures { λ _. ⌜ now (scores .exit) ≡ clearAt (now (scores .entry)) slot ⌝ }
+{
+    let s = slot as usize;
+    if s < scores.len() {
+        scores[s] = 0.0;
+    }
+}
+
+// Sets the scores of some slots to +0.
+fn clear_slots(slots: &[u64], scores: &mut [f32])
+    ensures { λ _. ⌜ now (scores .exit) ≡ foldl clearAt (now (scores .entry)) (now (slots .entry)) ⌝ }
+{
+    let mut i = 0usize;
+    while i < slots.len() {
+        clear_slot(slots[i], scores);
+        i += 1;
+    }
+}
+
+// Sets the scores of the slots that the terms with these keys meet to +0.
+fn clear_met(starts: &[u64], slots: &[u64], weights: &[f32], keys: &[u64], scores: &mut [f32])
+    ensures { λ _. ⌜ now (scores .exit) ≡ clearMet (documents (now (starts .entry)) (now (slots .entry)) (now (weights .entry))) (now (scores .entry)) (map termOf (now (keys .entry))) ⌝ }
+{
+    let mut i = 0usize;
+    while i < keys.len() {
+        let component = term_keys::component_of_term_key(keys[i]);
+        let p = centroid_index::entries_of(starts, slots, weights, component);
+        let from = p.from;
+        let to = p.to;
+        clear_slots(&slots[from..to], scores);
+        i += 1;
+    }
+}
+
+// Whether the terms with these keys meet so many entries, or more. It takes one step for each key at the most.
+fn meets_many(starts: &[u64], slots: &[u64], weights: &[f32], keys: &[u64], many: usize) -> bool
+    ensures { λ r. ⌜ r ≡ leb many (length (met (documents (now (starts .entry)) (now (slots .entry)) (now (weights .entry))) (map termOf (now (keys .entry))))) ⌝ }
+{
+    let mut left = many;
+    let mut i = 0usize;
+    while i < keys.len() {
+        let component = term_keys::component_of_term_key(keys[i]);
+        let p = centroid_index::entries_of(starts, slots, weights, component);
+        let size = p.to - p.from;
+        if left <= size {
+            return true;
+        }
+        left -= size;
+        i += 1;
+    }
+    left == 0
+}
+
+// What `nearest_by_keys` does, where there are no more scores than centroids that compete.
+fn nearest_within(
+    otherwise: DocumentId,
+    competing: &[u64],
+    starts: &[u64],
+    slots: &[u64],
+    weights: &[f32],
+    keys: &[u64],
+    scores: &mut [f32],
+) -> DocumentId
+    requires { ⌜ length (now scores) ≤ length (now competing) ⌝ }
+    ensures { λ r. ⌜ (r .0 ≡ chosenBy (otherwise .0) (now (competing .entry)) (documents (now (starts .entry)) (now (slots .entry)) (now (weights .entry)))
+        (addTerms (documents (now (starts .entry)) (now (slots .entry)) (now (weights .entry))) (now (scores .entry)) (map termOf (now (keys .entry)))) (map termOf (now (keys .entry))))
+        × (now (scores .exit) ≡ setBack (documents (now (starts .entry)) (now (slots .entry)) (now (weights .entry)))
+        (addTerms (documents (now (starts .entry)) (now (slots .entry)) (now (weights .entry))) (now (scores .entry)) (map termOf (now (keys .entry)))) (map termOf (now (keys .entry)))) ⌝ }
+{
+    centroid_index::add_keys(starts, slots, weights, keys, scores);
+    // where there are as many entries as scores, one walk over the scores costs no more
+    if meets_many(starts, slots, weights, keys, scores.len()) {
+        let c = assignment::last_greatest(otherwise, competing, scores);
+        clearing::clear_f32(scores);
+        return c;
+    }
+    let c = choose(otherwise, competing, starts, slots, weights, keys, scores);
+    clear_met(starts, slots, weights, keys, scores);
+    c
+}
+
+// The smaller of two lengths.
+fn shorter(a: usize, b: usize) -> usize
+    ensures { λ r. ⌜ r ≡ min a b ⌝ }
+{
+    if a < b { a } else { b }
+}
+
+// The centroid that takes a document by the terms with these keys, of those that compete; another document's id where none does. The terms
+// are added to the scores, one of the slots is chosen, and the scores are set back to +0. From scores that are all +0 this is the last
+// centroid with the greatest score, and leaves them all +0 (specs/Zeros). It takes time in proportion to the keys and the entries that
+// they meet, however many centroids compete.
+pub fn nearest_by_keys(
+    otherwise: DocumentId,
+    competing: &[u64],
+    starts: &[u64],
+    slots: &[u64],
+    weights: &[f32],
+    keys: &[u64],
+    scores: &mut [f32],
+) -> DocumentId
+    ensures { λ r. ⌜ (r .0 ≡ nearestByKeys (otherwise .0) (now (competing .entry)) (documents (now (starts .entry)) (now (slots .entry)) (now (weights .entry))) (now (scores .entry)) (map termOf (now (keys .entry))))
+        × (now (scores .exit) ≡ scoresAfter (now (competing .entry)) (documents (now (starts .entry)) (now (slots .entry)) (now (weights .entry))) (now (scores .entry)) (map termOf (now (keys .entry)))) ⌝ }
+{
+    let n = shorter(competing.len(), scores.len());
+    nearest_within(
+        otherwise,
+        competing,
+        starts,
+        slots,
+        weights,
+        keys,
+        &mut scores[..n],
+    )
+}
