@@ -1,6 +1,7 @@
 // Which centroid takes a document: by all of its terms and the first greatest score above 0, or by its largest terms and the last
 // greatest score. Scores come through the centroids' index; those of the largest terms are taken in crate slot_scores. Nothing is
 // assumed of the slices.
+use lists::shorter;
 ghost use mathlib.Core.Path.{_≡_};
 ghost use mathlib.Core.List.{map};
 ghost use Prim.Native.Nat.{min};
@@ -131,13 +132,6 @@ pub fn nearest_to(
     first_above_zero(centroids, scores)
 }
 
-// The smaller of two numbers.
-fn smaller(a: usize, b: usize) -> usize
-    ensures { λ r. ⌜ r ≡ min a b ⌝ }
-{
-    if a < b { a } else { b }
-}
-
 // Writes the key of each term to the front of a slice; those that find no place are left out.
 fn write_keys(components: &[u32], values: &[f32], keys: &mut [u64])
     ensures { λ _. ⌜ now (keys .exit) ≡ sets (now (keys .entry)) 0 (map termKey (paired (now (components .entry)) (now (values .entry)))) ⌝ }
@@ -161,7 +155,7 @@ fn sort_keys(components: &[u32], values: &[f32], keys: &mut [u64]) -> usize
 {
     write_keys(components, values, keys);
     let terms = documents::term_count(components, values);
-    let n = smaller(terms, keys.len());
+    let n = shorter(terms, keys.len());
     sort::sort(&mut keys[..n]);
     n
 }
@@ -184,5 +178,5 @@ pub fn largest_keys(
     let from = p.from;
     let to = p.to;
     let n = sort_keys(&components[from..to], &values[from..to], keys);
-    smaller(cut as usize, n)
+    shorter(cut as usize, n)
 }

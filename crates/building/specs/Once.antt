@@ -64,11 +64,6 @@ once-take zero l h = tt
 once-take (suc n) [] h = tt
 once-take (suc n) (x ∷ l) h = (among-take x n l (h .0), once-take n l (h .1))
 
-pub each-take : {A : Type 0} (P : A → Type 0) (n : ℕ) (l : List A) → EachOf P l → EachOf P (take n l)
-each-take P zero l e = tt
-each-take P (suc n) [] e = tt
-each-take P (suc n) (x ∷ l) e = (e .0, each-take P n l (e .1))
-
 abbrev componentOf : Term → ℕ
 componentOf t = t .component
 

@@ -19,6 +19,7 @@ use Rattle.documents.specs.Checks.{termsHold, termsHoldBelow, documentsHold}
 use Rattle.documents.specs.TermKeys.{Held}
 use Rattle.block_maximum.specs.Maximum.{blockTerms, maximum, maxima, blockMaximum}
 use Rattle.summaries.specs.Summaries.{kept, lower, summary}
+use Rattle.summaries.specs.Each.{each-permuted, each-take, each-drop}
 use Rattle.summaries.specs.Whole.{block-held}
 use Rattle.quantizing.specs.Demand3.{F32s}
 use Rattle.quantizing.specs.Accepted.{Quantizable}
@@ -27,17 +28,12 @@ use Rattle.layout.specs.Passes.{Storable}
 use Rattle.clusters.specs.Clusters.{clusters}
 use Rattle.clusters.specs.Ranks.{Among, rising-among}
 use Rattle.clusters.specs.Members.{each-among}
-use Rattle.building.specs.Once.{kept-first, each-take, summary-rises}
+use Rattle.building.specs.Once.{kept-first, summary-rises}
 use Rattle.building.specs.Built.{Input, inClusters, assignedIn, blockedIn, blocks, blockDocuments, summaries}
 use Rattle.building.specs.Shares.{clusters-share, assigned-documents}
 
 -- ---- what holds of each
 module _ {A : Type 0} (P : A → Type 0) where
-  each-drop : (n : ℕ) (l : List A) → EachOf P l → EachOf P (drop n l)
-  each-drop zero l e = e
-  each-drop (suc n) [] e = tt
-  each-drop (suc n) (x ∷ l) e = each-drop n l (e .1)
-
   each-append : (l r : List A) → EachOf P l → EachOf P r → EachOf P (l ++ r)
   each-append [] r a b = b
   each-append (x ∷ l) r a b = (a .0, each-append l r (a .1) b)
@@ -45,13 +41,7 @@ module _ {A : Type 0} (P : A → Type 0) where
   each-between : (os : List ℕ) (xs : List A) → EachOf P xs → EachOf (EachOf P) (between os xs)
   each-between [] xs e = tt
   each-between (a ∷ []) xs e = tt
-  each-between (a ∷ b ∷ os) xs e = (each-take P (b - a) (drop a xs) (each-drop a xs e), each-between (b ∷ os) xs e)
-
-  each-permuted : {l r : List A} → List·Permᴰ l r → EachOf P l → EachOf P r
-  each-permuted List·Permᴰ.List·Permᴰ·nil h = h
-  each-permuted (List·Permᴰ.List·Permᴰ·cons e d) h = (subst P e (h .0), each-permuted d (h .1))
-  each-permuted (List·Permᴰ.List·Permᴰ·swap e f) h = (subst P f (h .1 .0), (subst P e (h .0), h .1 .1))
-  each-permuted (List·Permᴰ.List·Permᴰ·trans d e) h = each-permuted e (each-permuted d h)
+  each-between (a ∷ b ∷ os) xs e = (each-take P (b - a) (drop a xs) (each-drop P a xs e), each-between (b ∷ os) xs e)
 
   each-those : (p : A → Bool) (l : List A) → EachOf P l → EachOf P (those p l)
   each-those p [] e = tt

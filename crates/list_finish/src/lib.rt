@@ -3,19 +3,12 @@
 use building::BuildAnswer;
 use configuration::SummarizationStrategy;
 use list_ready::ListBlocks;
+use lists::shorter;
 ghost use mathlib.Core.Path.{_≡_};
-ghost use Prim.Native.Nat.{min};
 ghost use Rattle.documents.specs.Documents.{documents};
 ghost use Rattle.building.specs.Building.{outputs};
 ghost use Rattle.list_layout.specs.Laid.{left};
 ghost use Rattle.list_finish.specs.Finished.{finished, finishedBy};
-
-// The lesser of two lengths.
-fn lesser(a: usize, b: usize) -> usize
-    ensures { λ r. ⌜ r ≡ min a b ⌝ }
-{
-    if a <= b { a } else { b }
-}
 
 // Writes the result of a build from the blocks that were made: the first `listed` of `order` and as many of `blocks` as there are
 // offsets; both are zero then, and so is what it works in. Where the blocks were refused all output is zero, the answer is that refusal,
@@ -61,8 +54,8 @@ pub fn finish(
             BuildAnswer::Refused(reason)
         }
         ListBlocks::Offsets(count) => {
-            let documents = lesser(listed, order.len());
-            let starting = lesser(count as usize, blocks.len());
+            let documents = shorter(listed, order.len());
+            let starting = shorter(count as usize, blocks.len());
             let answer = list_layout::write(
                 dimension,
                 summarization,

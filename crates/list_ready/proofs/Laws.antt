@@ -11,7 +11,7 @@ use Rattle.refusal.specs.declared.Refusal.{Refusal}
 use Rattle.refusal.specs.declared.Refusal.the-variants.{BufferTooShort}
 use Rattle.refusal.specs.declared.Verdict.{Verdict}
 use Rattle.refusal.specs.declared.Verdict.the-variants as verdict
-use Rattle.refusal.specs.First.{Test, _gives_, firstOf, faultless, first-after}
+use Rattle.refusal.specs.First.{Test, _gives_, firstOf, faultless, first-after, first-refused}
 use Rattle.configuration.specs.declared.BlockingStrategy.{BlockingStrategy}
 use Rattle.documents.specs.Documents.{Documents}
 use Rattle.admission.specs.Admission.{inputTests}
@@ -20,15 +20,6 @@ use Rattle.building.specs.Building.{Scratches, scratchLengths}
 use Rattle.scratch.specs.declared.ScratchLengths.{ScratchLengths}
 use Rattle.scratch.specs.Lengths.{capped, shown, lengthsOf}
 use Rattle.list_ready.specs.Made.{makeTests}
-
--- ---- the first refusal
-first-refused : (a b : List Test) (r : Refusal) → firstOf a ≡ verdict.Refused r → firstOf (a ++ b) ≡ verdict.Refused r
-first-refused [] b r e = absurd (let z : _≡_ {A = Bool} true false = cc in true≢false z)
-first-refused (t ∷ a) b r e = go (t .fault) e (first-refused a b r)
-  where
-    go : (f : Bool) → cond f (verdict.Refused (t .reason)) (firstOf a) ≡ verdict.Refused r → (firstOf a ≡ verdict.Refused r → firstOf (a ++ b) ≡ verdict.Refused r) → cond f (verdict.Refused (t .reason)) (firstOf (a ++ b)) ≡ verdict.Refused r
-    go true e i = e
-    go false e i = i e
 
 pub refused-early : (a b : List Test) (v : Verdict) (r : Refusal) → v ≡ firstOf a → v ≡ verdict.Refused r → verdict.Refused r ≡ firstOf (a ++ b)
 refused-early a b v r e h = sym (first-refused a b r (sym e ∙ h))

@@ -13,7 +13,7 @@ use Rattle.refusal.specs.declared.Refusal.{Refusal}
 use Rattle.refusal.specs.declared.Refusal.the-variants.{OutsideLimits, BufferTooShort}
 use Rattle.refusal.specs.declared.Verdict.{Verdict}
 use Rattle.refusal.specs.declared.Verdict.the-variants as verdict
-use Rattle.refusal.specs.First.{Test, _gives_, firstOf, Faultless, faultless, first-after}
+use Rattle.refusal.specs.First.{Test, _gives_, firstOf, Faultless, faultless, first-after, first-refused}
 use Rattle.configuration.specs.declared.SummarizationStrategy.{SummarizationStrategy}
 use Rattle.lists.specs.Lists.{between}
 use Rattle.documents.specs.Documents.{Documents}
@@ -32,18 +32,6 @@ use Rattle.block_counts.specs.Counting.{Counting, counting, countTests, countVe
 use Rattle.list_sizes.specs.declared.OutputLengths.{OutputLengths}
 use Rattle.list_sizes.specs.Sized.{postingOf, tops, builtFrom, dimensionOutside, cutTo, laidTests, laidVerdict, roomOf, judgedRoom, sizesOrRefused, roomBy, roomAnswer, within, measuredLeft, Measures}
 use Rattle.list_sizes.specs.Tallied.{component-count, start-count, entry-count, code-count, minimum-count, step-count, between-count}
-
-abbrev isAccepted : Verdict → Bool
-isAccepted verdict.Accepted = true
-isAccepted (verdict.Refused r) = false
-
-first-refused : (a b : List Test) (r : Refusal) → firstOf a ≡ verdict.Refused r → firstOf (a ++ b) ≡ verdict.Refused r
-first-refused [] b r e = absurd (true≢false (ap isAccepted e))
-first-refused (t ∷ a) b r e = go (t .fault) e (first-refused a b r)
-  where
-    go : (f : Bool) → cond f (verdict.Refused (t .reason)) (firstOf a) ≡ verdict.Refused r → (firstOf a ≡ verdict.Refused r → firstOf (a ++ b) ≡ verdict.Refused r) → cond f (verdict.Refused (t .reason)) (firstOf (a ++ b)) ≡ verdict.Refused r
-    go true e i = e
-    go false e i = i e
 
 module _ (dimension : ℕ) (s : SummarizationStrategy) (d : Documents) (order blocks : List ℕ) (w : Counting) (room : Output) where
   pub measured-outside : (b : Bool) → b ≡ dimensionOutside dimension → b ≡ true → Measures dimension s d order blocks w room (answer.Refused OutsideLimits) w

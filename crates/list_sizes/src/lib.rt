@@ -3,10 +3,11 @@ use building::BuildAnswer;
 use building::BuiltSizes;
 use configuration::SummarizationStrategy;
 use layout::Sizes;
+use lists::shorter;
 use refusal::Refusal;
 use refusal::Verdict;
 ghost use mathlib.Core.Path.{_≡_};
-ghost use Prim.Native.Nat.{_-_, min};
+ghost use Prim.Native.Nat.{_-_};
 ghost use Rattle.documents.specs.Documents.{documents};
 ghost use Rattle.block_counts.specs.Counting.{counting};
 ghost use Rattle.list_sizes.specs.Sized.{roomOf, roomAnswer, Measures};
@@ -21,13 +22,6 @@ pub struct OutputLengths {
     pub codes: u64,
     pub minimums: u64,
     pub steps: u64,
-}
-
-// The lesser of two lengths.
-fn lesser(a: usize, b: usize) -> usize
-    ensures { λ r. ⌜ r ≡ min a b ⌝ }
-{
-    if a <= b { a } else { b }
 }
 
 // How many blocks so many offsets stand for.
@@ -86,7 +80,7 @@ pub fn measure(
     if blocking::limits::dimension_outside(dimension) {
         return BuildAnswer::Refused(Refusal::OutsideLimits);
     }
-    let n = lesser(dimension as usize, counts.len());
+    let n = shorter(dimension as usize, counts.len());
     let verdict = block_counts::count(
         dimension,
         strategy,

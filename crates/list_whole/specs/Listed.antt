@@ -13,6 +13,7 @@ use Rattle.configuration.specs.declared.BlockingStrategy.{BlockingStrategy}
 use Rattle.configuration.specs.declared.BlockingStrategy.the-variants.{FixedSize, RandomKmeans}
 use Rattle.lists.specs.Lists.{EachOf, every, joined}
 use Rattle.packing.specs.Packing as range
+use Rattle.summaries.specs.Each.{each-permuted}
 use Rattle.documents.specs.Documents.{Documents, start, size, packed}
 use Rattle.clusters.specs.Clusters.{clusters}
 use Rattle.admission.specs.Admission.{startsFit, lengthsFit}
@@ -26,12 +27,6 @@ each-every p [] e = refl
 each-every p (x ∷ l) e = let i = each-every p l (e .1) in rw (e .0, i)
 
 module _ (P : ℕ → Type 0) where
-  each-permuted : {l r : List ℕ} → List·Permᴰ l r → EachOf P l → EachOf P r
-  each-permuted List·Permᴰ.List·Permᴰ·nil h = h
-  each-permuted (List·Permᴰ.List·Permᴰ·cons e d) h = (subst P e (h .0), each-permuted d (h .1))
-  each-permuted (List·Permᴰ.List·Permᴰ·swap e f) h = (subst P f (h .1 .0), (subst P e (h .0), h .1 .1))
-  each-permuted (List·Permᴰ.List·Permᴰ·trans d e) h = each-permuted e (each-permuted d h)
-
   in-clusters : (bs : List (List ℕ)) → EachOf P (joined bs) → EachOf P ((inClusters bs) .documents)
   in-clusters [] e = tt
   in-clusters (b ∷ bs) e = e
@@ -44,7 +39,7 @@ module _ (P : ℕ → Type 0) where
       go (FixedSize size) = e
       go (RandomKmeans fraction minimum algorithm) =
           let pairs = assignedIn algorithm minimum g in
-          in-clusters (clusters pairs) (each-permuted (Permᴰ·symm (clusters-share pairs)) (subst (EachOf P) (sym (assigned-documents algorithm minimum g)) e))
+          in-clusters (clusters pairs) (each-permuted P (Permᴰ·symm (clusters-share pairs)) (subst (EachOf P) (sym (assigned-documents algorithm minimum g)) e))
 
 -- ---- a document whose range can be packed
 posting-packed : (d : Documents) (i : ℕ) → ltb (start d i) range.startLimit ≡ true → leb (size d i) range.lengthLimit ≡ true → postingOf d i ≡ packed d i

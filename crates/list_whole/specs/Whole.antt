@@ -12,7 +12,7 @@ use Rattle.refusal.specs.declared.Refusal.{Refusal}
 use Rattle.refusal.specs.declared.Refusal.the-variants.{BufferTooShort, EmptySummary}
 use Rattle.refusal.specs.declared.Verdict.{Verdict}
 use Rattle.refusal.specs.declared.Verdict.the-variants as verdict
-use Rattle.refusal.specs.First.{Test, _gives_, firstOf, faultless, first-after}
+use Rattle.refusal.specs.First.{Test, _gives_, firstOf, faultless, first-after, first-refused}
 use Rattle.admission.specs.Admission.{inputTests}
 use Rattle.block_counts.specs.Counting.{counting}
 use Rattle.building.specs.declared.BuildAnswer.{BuildAnswer}
@@ -30,15 +30,6 @@ use Rattle.list_ready.specs.Made.{makeTests, holding}
 use Rattle.list_layout.specs.Laid as layout
 use Rattle.list_layout.specs.Laid.{builtFrom, laidVerdict, outputBy}
 use Rattle.list_whole.specs.Agree.{room, same-result, same-verdict}
-
--- ---- tests one after another
-first-refused : (a b : List Test) (r : Refusal) → firstOf a ≡ verdict.Refused r → firstOf (a ++ b) ≡ verdict.Refused r
-first-refused [] b r e = absurd (let z : _≡_ {A = Bool} true false = cc in true≢false z)
-first-refused (t ∷ a) b r e = go (t .fault) e (first-refused a b r)
-  where
-    go : (f : Bool) → cond f (verdict.Refused (t .reason)) (firstOf a) ≡ verdict.Refused r → (firstOf a ≡ verdict.Refused r → firstOf (a ++ b) ≡ verdict.Refused r) → cond f (verdict.Refused (t .reason)) (firstOf (a ++ b)) ≡ verdict.Refused r
-    go true e i = e
-    go false e i = i e
 
 regroup : (a : List Test) (t : Test) (b : List Test) → (a ++ (t ∷ [])) ++ b ≡ a ++ (t ∷ b)
 regroup [] t b = refl

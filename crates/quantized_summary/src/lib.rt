@@ -1,8 +1,9 @@
 // The sparse layout of a list's summaries: the score of each summary for a query. Its check stands in crate list_checks.
+use lists::shorter;
 ghost use mathlib.Core.Path.{_≡_};
 ghost use mathlib.Core.Bool.{false};
 ghost use mathlib.Core.List.{_++_};
-ghost use Prim.Native.Nat.{_+_, _≤_, min};
+ghost use Prim.Native.Nat.{_+_, _≤_};
 ghost use lib.ListN.{length, drop, replicate};
 ghost use lib.Seq.{slice};
 ghost use lib.IntN.{pos};
@@ -11,13 +12,6 @@ ghost use Rattle.quantized_summary.specs.Layout.{arrays, entry, entries,
 ghost use Rattle.quantized_summary.specs.Scores.{scoresOf, putIn};
 ghost use Rattle.documents.specs.Documents.{paired};
 ghost use Rattle.quantized_summary.specs.Walk.{grown, grownBy, Spans};
-
-// The smaller of two lengths.
-fn lesser(a: usize, b: usize) -> usize
-    ensures { λ r. ⌜ r ≡ min a b ⌝ }
-{
-    if a <= b { a } else { b }
-}
 
 // Sets the first n scores to +0.
 fn clear(n: usize, scores: &mut [f32])
@@ -150,7 +144,7 @@ fn add_term(
 {
     let range = range_at(components, offsets, place, c);
     let from = range.from;
-    let end = lesser(range.to, lesser(ids.len(), codes.len()));
+    let end = shorter(range.to, shorter(ids.len(), codes.len()));
     add_entries(n, minimums, steps, value, from, end, ids, codes, scores);
 }
 
@@ -169,8 +163,8 @@ pub fn distances(
 )
     ensures { λ _. ⌜ now (scores .exit) ≡ putIn (scoresOf (arrays (now (components .entry)) (now (offsets .entry)) (now (ids .entry)) (now (codes .entry)) (now (minimums .entry)) (now (steps .entry))) (paired (now («query_components» .entry)) (now («query_values» .entry)))) (now (scores .entry)) ⌝ }
 {
-    let n = lesser(lesser(minimums.len(), steps.len()), scores.len());
-    let terms = lesser(query_components.len(), query_values.len());
+    let n = shorter(shorter(minimums.len(), steps.len()), scores.len());
+    let terms = shorter(query_components.len(), query_values.len());
     clear(n, scores);
     let mut place = 0usize;
     let mut last = 0u32;

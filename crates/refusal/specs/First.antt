@@ -40,6 +40,15 @@ accepted-by (t ∷ ts) h = rw (h .0) (accepted-by ts (h .1))
 pub refused-by : (ts : List Test) (r : Refusal) (us : List Test) → Faultless ts → firstOf (ts ++ ((true gives r) ∷ us)) ≡ Refused r
 refused-by ts r us h = first-after ts ((true gives r) ∷ us) h
 
+-- a refusal among the first tests stands, whatever tests follow
+pub first-refused : (ts us : List Test) (r : Refusal) → firstOf ts ≡ Refused r → firstOf (ts ++ us) ≡ Refused r
+first-refused [] us r e = absurd (let z : _≡_ {A = Bool} true false = cc in true≢false z)
+first-refused (t ∷ ts) us r e = go (t .fault) e (first-refused ts us r)
+  where
+    go : (f : Bool) → cond f (Refused (t .reason)) (firstOf ts) ≡ Refused r → (firstOf ts ≡ Refused r → firstOf (ts ++ us) ≡ Refused r) → cond f (Refused (t .reason)) (firstOf (ts ++ us)) ≡ Refused r
+    go true e i = e
+    go false e i = i e
+
 -- and the other way round: an accepted call's tests find no fault
 pub faultless : (ts : List Test) → firstOf ts ≡ Accepted → Faultless ts
 faultless [] h = tt

@@ -1,8 +1,9 @@
 // The centroid that takes a document by its largest terms, found by the entries of the centroids' index that these terms meet: their slots
 // alone are added to, looked at and set back, however many centroids there are. Nothing is assumed of the slices.
+use lists::shorter;
 ghost use mathlib.Core.Path.{_≡_};
 ghost use mathlib.Core.List.{map, foldl};
-ghost use Prim.Native.Nat.{_≤_, min};
+ghost use Prim.Native.Nat.{_≤_};
 ghost use lib.Dec.{leb};
 ghost use lib.ListN.{length};
 ghost use Rattle.documents.specs.Documents.{documents};
@@ -205,13 +206,6 @@ fn nearest_within(
     let c = choose(otherwise, competing, starts, slots, weights, keys, scores);
     clear_met(starts, slots, weights, keys, scores);
     c
-}
-
-// The smaller of two lengths.
-fn shorter(a: usize, b: usize) -> usize
-    ensures { λ r. ⌜ r ≡ min a b ⌝ }
-{
-    if a < b { a } else { b }
 }
 
 // The centroid that takes a document by the terms with these keys, of those that compete; another document's id where none does. The terms

@@ -13,20 +13,20 @@ use borrow.Author.Needs.{needs}
 use Rattle.approximate_passes.proofs.assign.Statement.{statement}
 use Rattle.approximate_passes.proofs.assign.Tie as tie
 
-smaller-requires : tie.Need-smaller-requires
-smaller-requires c κs = search needs
+shorter-requires : tie.Need-shorter-requires
+shorter-requires c κs = search needs
 
-smaller-requires-2 : tie.Need-smaller-requires-2
-smaller-requires-2 c κs = search needs
+shorter-requires-2 : tie.Need-shorter-requires-2
+shorter-requires-2 c κs = search needs
 
 slice-aggregate-assign-both : tie.Need-slice-aggregate-assign-both
-slice-aggregate-assign-both c = sym (length-take-le (c .before .before .smaller .result) (c .before .before .before .before .before .before .before .before .before .before .before .before .before .before .before .before .before .args .ids .now) (omega (arith, c .before .before .smaller .ensures)))
+slice-aggregate-assign-both c = sym (length-take-le (c .before .before .shorter .result) (c .before .before .before .before .before .before .before .before .before .before .before .before .before .before .before .before .before .args .ids .now) (omega (arith, c .before .before .shorter .ensures)))
 
 slice-aggregate-assign-both-2 : tie.Need-slice-aggregate-assign-both-2
-slice-aggregate-assign-both-2 c = sym (length-take-le (c .before .before .smaller2 .result) (c .before .before .before .before .before .before .before .before .before .before .before .before .before .before .before .before .before .before .args .centroids .now) (omega (arith, c .before .before .smaller2 .ensures)))
+slice-aggregate-assign-both-2 c = sym (length-take-le (c .before .before .shorter2 .result) (c .before .before .before .before .before .before .before .before .before .before .before .before .before .before .before .before .before .before .args .centroids .now) (omega (arith, c .before .before .shorter2 .ensures)))
 
 assign-both-requires : tie.Need-assign-both-requires
-assign-both-requires c κs = let a = c .before .before .before .before .before .before .before .before .before .before .before .before .before .before .before .before .before .before .before .before .before .before .before .before .before .before .args in (cut-fits (a .ids .now) (a .taken .now) (c .before .before .before .before .before .before .before .before .before .before .before .smaller .result) (c .before .before .before .before .before .before .before .before .before .before .before .smaller .ensures), cut-fits (a .centroids .now) (a .competing .now) (c .before .before .before .before .before .before .before .before .before .before .smaller2 .result) (c .before .before .before .before .before .before .before .before .before .before .smaller2 .ensures))
+assign-both-requires c κs = let a = c .before .before .before .before .before .before .before .before .before .before .before .before .before .before .before .before .before .before .before .before .before .before .before .before .before .before .args in (cut-fits (a .ids .now) (a .taken .now) (c .before .before .before .before .before .before .before .before .before .before .before .shorter .result) (c .before .before .before .before .before .before .before .before .before .before .before .shorter .ensures), cut-fits (a .centroids .now) (a .competing .now) (c .before .before .before .before .before .before .before .before .before .before .shorter2 .result) (c .before .before .before .before .before .before .before .before .before .before .shorter2 .ensures))
 
 clear-requires : tie.Need-clear-requires
 clear-requires c κs = search needs
@@ -57,7 +57,7 @@ same-length-8 c = c .before .before .before .before .before .before .before .bef
 
 returns : tie.Need-returns
 returns c = let a = c .before .before .before .before .before .before .before .before .before .before .before .before .before .before .before .before .before .before .before .before .before .before .before .before .before .before .before .before .before .before .before .before .before .before .before .before .before .before .before .before .before .before .before .before .before .before .before .before .before .before .before .before .before .before .before .before .before .before .before .before .before .before .before .before .before .args in let f = c .before .before .before .before .before .before .before .before .before .before .before .before .before .before .before .before .before .before .before .before .before .before .before .before .before .before .before .before .before .before .before .before .before .before .before .before .before .before .assign-both in let g = c .before .before .before .before .before .before .before .before .before .before .before .before .before .before .clear in (
-  assigned-cut (documents (a .offsets .now) (a .components .now) (a .values .now)) (a .cut) (a .minimum) (a .centroids .now) (a .known .now) (a .competing .now) (length (a .starts .now)) (length (a .slots .now)) (length (a .weights .now)) (length (a .scores .now)) (length (a .counts .now)) (length (a .keys .now)) (a .ids .now) (a .taken .now) (c .before .before .before .before .before .before .before .before .before .before .before .before .before .before .before .before .before .before .before .before .before .before .before .before .before .before .before .before .before .before .before .before .before .before .before .before .before .before .before .before .before .before .before .before .before .before .before .before .before .before .smaller .result) (c .before .before .before .before .before .before .before .before .before .before .before .before .before .before .before .before .before .before .before .before .before .before .before .before .before .before .before .before .before .before .before .before .before .before .before .before .before .before .before .before .before .before .before .before .before .before .before .before .before .smaller2 .result) (f .last .1 .1 .1 .1 .1 .1 .1 .1 .1 .1 .1 .1 .1 .1 .1 .0) (c .before .before .before .before .before .before .before .before .before .before .before .before .before .before .before .before .before .before .before .before .before .before .before .before .before .before .before .before .before .before .before .before .before .before .before .before .before .before .before .before .before .before .before .before .before .before .before .before .before .before .smaller .ensures) (c .before .before .before .before .before .before .before .before .before .before .before .before .before .before .before .before .before .before .before .before .before .before .before .before .before .before .before .before .before .before .before .before .before .before .before .before .before .before .before .before .before .before .before .before .before .before .before .before .before .smaller2 .ensures) (f .ensures),
+  assigned-cut (documents (a .offsets .now) (a .components .now) (a .values .now)) (a .cut) (a .minimum) (a .centroids .now) (a .known .now) (a .competing .now) (length (a .starts .now)) (length (a .slots .now)) (length (a .weights .now)) (length (a .scores .now)) (length (a .counts .now)) (length (a .keys .now)) (a .ids .now) (a .taken .now) (c .before .before .before .before .before .before .before .before .before .before .before .before .before .before .before .before .before .before .before .before .before .before .before .before .before .before .before .before .before .before .before .before .before .before .before .before .before .before .before .before .before .before .before .before .before .before .before .before .before .before .shorter .result) (c .before .before .before .before .before .before .before .before .before .before .before .before .before .before .before .before .before .before .before .before .before .before .before .before .before .before .before .before .before .before .before .before .before .before .before .before .before .before .before .before .before .before .before .before .before .before .before .before .before .shorter2 .result) (f .last .1 .1 .1 .1 .1 .1 .1 .1 .1 .1 .1 .1 .1 .1 .1 .0) (c .before .before .before .before .before .before .before .before .before .before .before .before .before .before .before .before .before .before .before .before .before .before .before .before .before .before .before .before .before .before .before .before .before .before .before .before .before .before .before .before .before .before .before .before .before .before .before .before .before .before .shorter .ensures) (c .before .before .before .before .before .before .before .before .before .before .before .before .before .before .before .before .before .before .before .before .before .before .before .before .before .before .before .before .before .before .before .before .before .before .before .before .before .before .before .before .before .before .before .before .before .before .before .before .before .shorter2 .ensures) (f .ensures),
   g .ensures .0 ∙ ap (λ n. replicate n 0) (f .kept .1 .1 .1 .1 .1 .1 .1 .1 .0),
   g .ensures .1 ∙ ap (λ n. replicate n 0) (f .kept .1 .1 .1 .1 .1 .1 .1 .1 .1 .0),
   g .ensures .2 ∙ ap (λ n. replicate n 0) (f .kept .1 .1 .1 .1 .1 .1 .1 .1 .1 .1 .0),
@@ -71,8 +71,8 @@ pub assign-spec : {M : Type 1} → statement M
 assign-spec =
     tie.close
     (tie.spec
-    smaller-requires
-    smaller-requires-2
+    shorter-requires
+    shorter-requires-2
     slice-aggregate-assign-both
     slice-aggregate-assign-both-2
     assign-both-requires

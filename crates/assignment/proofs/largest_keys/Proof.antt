@@ -40,14 +40,14 @@ part-sort-keys-end-2 c = search needs
 sort-keys-requires : tie.Need-sort-keys-requires
 sort-keys-requires c κs = search needs
 
-smaller-requires : tie.Need-smaller-requires
-smaller-requires c κs = search needs
+shorter-requires : tie.Need-shorter-requires
+shorter-requires c κs = search needs
 
 same-length : tie.Need-same-length
 same-length c = search needs
 
 returns : tie.Need-returns
-returns c = let a = c .before .before .before .before .before .before .before .before .before .before .before .before .args in let s = c .before .before .before .sort-keys in let m = c .smaller in let h = c .before .before .before .before .before .before .before .places-of .ensures .holds in
+returns c = let a = c .before .before .before .before .before .before .before .before .before .before .before .before .args in let s = c .before .before .before .sort-keys in let m = c .shorter in let h = c .before .before .before .before .before .before .before .places-of .ensures .holds in
     let d = documents (a .offsets .now) (a .components .now) (a .values .now) in
     let ts = terms d (a .id .0) in
     let keys : s .last .1 .1 .0 ≡ keysOf (a .keys .now) ts = s .ensures .1 ∙ ap (keysOf (a .keys .now)) (sym h) in
@@ -72,6 +72,6 @@ largest-keys-spec =
     part-sort-keys-start-2
     part-sort-keys-end-2
     sort-keys-requires
-    smaller-requires
+    shorter-requires
     same-length
     returns)

@@ -17,14 +17,14 @@ write-keys-requires c κs = search needs
 term-count-requires : tie.Need-term-count-requires
 term-count-requires c κs = search needs
 
-smaller-requires : tie.Need-smaller-requires
-smaller-requires c κs = search needs
+shorter-requires : tie.Need-shorter-requires
+shorter-requires c κs = search needs
 
 slice-relend-prefix-sort : tie.Need-slice-relend-prefix-sort
 slice-relend-prefix-sort c = search needs
 
 slice-aggregate-sort : tie.Need-slice-aggregate-sort
-slice-aggregate-sort c = sym (length-take-le (c .before .smaller .result) (c .before .before .before .before .before .write-keys .last .1 .1 .0) (omega (arith, c .before .smaller .ensures)))
+slice-aggregate-sort c = sym (length-take-le (c .before .shorter .result) (c .before .before .before .before .before .write-keys .last .1 .1 .0) (omega (arith, c .before .shorter .ensures)))
 
 sort-requires : tie.Need-sort-requires
 sort-requires c κs = search needs
@@ -35,8 +35,8 @@ same-length c = search needs
 returns : tie.Need-returns
 returns c = let a = c .before .before .before .before .before .before .before .before .before .before .before .before .before .args in let w = c .before .before .before .before .before .before .before .before .write-keys in
     let count = paired-count (a .components .now) (a .values .now) in
-    let e : c .before .before .before .before .smaller .result ≡ min (length (paired (a .components .now) (a .values .now))) (length (a .keys .now)) = omega (arith, c .before .before .before .before .smaller .ensures, c .before .before .before .before .before .term-count .ensures, w .kept .1 .1 .0) in
-    (e, keys-sorted (paired (a .components .now) (a .values .now)) (held-paired (a .components .now) (a .values .now) (λ k. c .before .before .before .before .before .before .before .before .before .before .before .before .shared-slice-known .given k .fits) (λ k. c .before .before .before .before .before .before .before .before .before .before .before .shared-slice-known2 .given k)) (a .keys .now) (w .last .1 .1 .0) (c .before .before .sort .last .0) (c .before .before .before .before .smaller .result) e (w .ensures) (c .before .before .sort .ensures))
+    let e : c .before .before .before .before .shorter .result ≡ min (length (paired (a .components .now) (a .values .now))) (length (a .keys .now)) = omega (arith, c .before .before .before .before .shorter .ensures, c .before .before .before .before .before .term-count .ensures, w .kept .1 .1 .0) in
+    (e, keys-sorted (paired (a .components .now) (a .values .now)) (held-paired (a .components .now) (a .values .now) (λ k. c .before .before .before .before .before .before .before .before .before .before .before .before .shared-slice-known .given k .fits) (λ k. c .before .before .before .before .before .before .before .before .before .before .before .shared-slice-known2 .given k)) (a .keys .now) (w .last .1 .1 .0) (c .before .before .sort .last .0) (c .before .before .before .before .shorter .result) e (w .ensures) (c .before .before .sort .ensures))
 
 pub sort-keys-spec : {M : Type 1} → statement M
 sort-keys-spec =
@@ -44,7 +44,7 @@ sort-keys-spec =
     (tie.spec
     write-keys-requires
     term-count-requires
-    smaller-requires
+    shorter-requires
     slice-relend-prefix-sort
     slice-aggregate-sort
     sort-requires

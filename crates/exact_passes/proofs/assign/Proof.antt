@@ -23,23 +23,23 @@ front-length S F m h e =
     let c = length-drop m S in
     omega (arith, a, b, c, e)
 
-smaller-requires : tie.Need-smaller-requires
-smaller-requires c κs = search needs
+shorter-requires : tie.Need-shorter-requires
+shorter-requires c κs = search needs
 
-smaller-requires-2 : tie.Need-smaller-requires-2
-smaller-requires-2 c κs = search needs
+shorter-requires-2 : tie.Need-shorter-requires-2
+shorter-requires-2 c κs = search needs
 
 slice-aggregate-assign-both : tie.Need-slice-aggregate-assign-both
-slice-aggregate-assign-both c = sym (length-take-le (c .before .before .smaller .result) (c .before .before .before .before .before .before .before .before .before .before .before .before .before .before .before .args .ids .now) (omega (arith, c .before .before .smaller .ensures)))
+slice-aggregate-assign-both c = sym (length-take-le (c .before .before .shorter .result) (c .before .before .before .before .before .before .before .before .before .before .before .before .before .before .before .args .ids .now) (omega (arith, c .before .before .shorter .ensures)))
 
 slice-relend-prefix-assign-both : tie.Need-slice-relend-prefix-assign-both
-slice-relend-prefix-assign-both c = omega (arith, c .before .before .before .before .before .smaller2 .ensures)
+slice-relend-prefix-assign-both c = omega (arith, c .before .before .before .before .before .shorter2 .ensures)
 
 slice-aggregate-assign-both-2 : tie.Need-slice-aggregate-assign-both-2
-slice-aggregate-assign-both-2 c = sym (length-take-le (c .before .before .before .before .before .before .smaller2 .result) (c .before .before .before .before .before .before .before .before .before .before .before .before .before .before .before .before .before .before .before .before .args .scores .now) (omega (arith, c .before .before .before .before .before .before .smaller2 .ensures)))
+slice-aggregate-assign-both-2 c = sym (length-take-le (c .before .before .before .before .before .before .shorter2 .result) (c .before .before .before .before .before .before .before .before .before .before .before .before .before .before .before .before .before .before .before .before .args .scores .now) (omega (arith, c .before .before .before .before .before .before .shorter2 .ensures)))
 
 assign-both-requires : tie.Need-assign-both-requires
-assign-both-requires c κs = cut-fits (c .before .before .before .before .before .before .before .before .before .before .before .before .before .before .before .before .before .before .before .before .before .args .ids .now) (c .before .before .before .before .before .before .before .before .before .before .before .before .before .before .before .before .before .before .before .before .before .args .taken .now) (c .before .before .before .before .before .before .before .before .smaller .result) (c .before .before .before .before .before .before .before .before .smaller .ensures)
+assign-both-requires c κs = cut-fits (c .before .before .before .before .before .before .before .before .before .before .before .before .before .before .before .before .before .before .before .before .before .args .ids .now) (c .before .before .before .before .before .before .before .before .before .before .before .before .before .before .before .before .before .before .before .before .before .args .taken .now) (c .before .before .before .before .before .before .before .before .shorter .result) (c .before .before .before .before .before .before .before .before .shorter .ensures)
 
 clear-requires : tie.Need-clear-requires
 clear-requires c κs = search needs
@@ -57,7 +57,7 @@ same-length-4 : tie.Need-same-length-4
 same-length-4 c = c .before .before .before .before .before .before .before .before .before .before .clear .kept .1 .1 .1 .0 ∙ c .before .before .before .before .before .before .before .before .before .before .before .before .before .before .before .before .before .before .before .before .before .before .before .before .before .before .before .before .assign-both .kept .1 .1 .1 .1 .1 .1 .1 .1 .1 .1 .0
 
 same-length-5 : tie.Need-same-length-5
-same-length-5 c = c .before .before .before .before .before .before .before .before .before .before .clear .kept .1 .1 .1 .1 .0 ∙ front-length (c .before .before .before .before .before .before .before .before .before .before .before .before .before .before .before .before .before .before .before .before .before .before .before .before .before .before .before .before .before .before .before .before .before .before .before .before .before .before .before .before .before .before .before .before .before .before .before .before .before .before .args .scores .now) (c .before .before .before .before .before .before .before .before .before .before .before .before .before .before .before .before .before .before .before .before .before .before .before .before .before .before .before .before .assign-both .last .1 .1 .1 .1 .1 .1 .1 .1 .1 .1 .1 .0) (c .before .before .before .before .before .before .before .before .before .before .before .before .before .before .before .before .before .before .before .before .before .before .before .before .before .before .before .before .before .before .before .before .before .before .before .before .smaller2 .result) (omega (arith, c .before .before .before .before .before .before .before .before .before .before .before .before .before .before .before .before .before .before .before .before .before .before .before .before .before .before .before .before .before .before .before .before .before .before .before .before .smaller2 .ensures)) (c .before .before .before .before .before .before .before .before .before .before .before .before .before .before .before .before .before .before .before .before .before .before .before .before .before .before .before .before .assign-both .kept .1 .1 .1 .1 .1 .1 .1 .1 .1 .1 .1 .0)
+same-length-5 c = c .before .before .before .before .before .before .before .before .before .before .clear .kept .1 .1 .1 .1 .0 ∙ front-length (c .before .before .before .before .before .before .before .before .before .before .before .before .before .before .before .before .before .before .before .before .before .before .before .before .before .before .before .before .before .before .before .before .before .before .before .before .before .before .before .before .before .before .before .before .before .before .before .before .before .before .args .scores .now) (c .before .before .before .before .before .before .before .before .before .before .before .before .before .before .before .before .before .before .before .before .before .before .before .before .before .before .before .before .assign-both .last .1 .1 .1 .1 .1 .1 .1 .1 .1 .1 .1 .0) (c .before .before .before .before .before .before .before .before .before .before .before .before .before .before .before .before .before .before .before .before .before .before .before .before .before .before .before .before .before .before .before .before .before .before .before .before .shorter2 .result) (omega (arith, c .before .before .before .before .before .before .before .before .before .before .before .before .before .before .before .before .before .before .before .before .before .before .before .before .before .before .before .before .before .before .before .before .before .before .before .before .shorter2 .ensures)) (c .before .before .before .before .before .before .before .before .before .before .before .before .before .before .before .before .before .before .before .before .before .before .before .before .before .before .before .before .assign-both .kept .1 .1 .1 .1 .1 .1 .1 .1 .1 .1 .1 .0)
 
 same-length-6 : tie.Need-same-length-6
 same-length-6 c = c .before .before .before .before .before .before .before .before .before .before .before .before .before .before .before .before .before .before .before .before .before .before .before .before .before .before .before .before .assign-both .kept .1 .1 .1 .1 .1 .1 .1 .1 .1 .1 .1 .1 .0
@@ -67,8 +67,8 @@ returns c =
     let a = c .before .before .before .before .before .before .before .before .before .before .before .before .before .before .before .before .before .before .before .before .before .before .before .before .before .before .before .before .before .before .before .before .before .before .before .before .before .before .before .before .before .before .before .before .before .before .before .before .before .before .args in
     let f = c .before .before .before .before .before .before .before .before .before .before .before .before .before .before .before .before .before .before .before .before .before .before .before .before .before .before .before .before .assign-both in
     let g = c .before .before .before .before .before .before .before .before .before .before .clear in
-    let m = c .before .before .before .before .before .before .before .before .before .before .before .before .before .before .before .before .before .before .before .before .before .before .before .before .before .before .before .before .before .before .before .before .before .before .before .before .smaller2 in
-    let n = c .before .before .before .before .before .before .before .before .before .before .before .before .before .before .before .before .before .before .before .before .before .before .before .before .before .before .before .before .before .before .before .before .before .before .before .before .before .smaller in
+    let m = c .before .before .before .before .before .before .before .before .before .before .before .before .before .before .before .before .before .before .before .before .before .before .before .before .before .before .before .before .before .before .before .before .before .before .before .before .shorter2 in
+    let n = c .before .before .before .before .before .before .before .before .before .before .before .before .before .before .before .before .before .before .before .before .before .before .before .before .before .before .before .before .before .before .before .before .before .before .before .before .before .shorter in
     let d = documents (a .offsets .now) (a .components .now) (a .values .now) in
     let l : length (take (m .result) (a .scores .now)) ≡ min (length (a .centroids .now)) (length (a .scores .now)) = length-take-le (m .result) (a .scores .now) (omega (arith, m .ensures)) ∙ m .ensures in (
       assigned-cut d (a .minimum) (a .centroids .now) (a .known .now) (length (a .starts .now)) (length (a .slots .now)) (length (a .weights .now)) (min (length (a .centroids .now)) (length (a .scores .now))) (length (a .counts .now)) (a .ids .now) (a .taken .now) (n .result) (f .last .1 .1 .1 .1 .1 .1 .1 .1 .1 .1 .1 .1 .0) (n .ensures)
@@ -84,8 +84,8 @@ pub assign-spec : {M : Type 1} → statement M
 assign-spec =
     tie.close
     (tie.spec
-    smaller-requires
-    smaller-requires-2
+    shorter-requires
+    shorter-requires-2
     slice-aggregate-assign-both
     slice-relend-prefix-assign-both
     slice-aggregate-assign-both-2

@@ -9,26 +9,26 @@ use borrow.Author.Needs.{needs}
 use Rattle.modes.proofs.assign.Statement.{statement}
 use Rattle.modes.proofs.assign.Tie as tie
 
-smaller-requires : tie.Need-smaller-requires
-smaller-requires c κs = search needs
+shorter-requires : tie.Need-shorter-requires
+shorter-requires c κs = search needs
 
-smaller-requires-2 : tie.Need-smaller-requires-2
-smaller-requires-2 c κs = search needs
+shorter-requires-2 : tie.Need-shorter-requires-2
+shorter-requires-2 c κs = search needs
 
 slice-aggregate-sort-into : tie.Need-slice-aggregate-sort-into
-slice-aggregate-sort-into c = sym (length-take-le (c .before .smaller2 .result) (c .before .before .before .before .before .before .before .before .before .before .before .before .before .before .before .before .before .args .centroids .now) (omega (arith, c .before .smaller2 .ensures)))
+slice-aggregate-sort-into c = sym (length-take-le (c .before .shorter2 .result) (c .before .before .before .before .before .before .before .before .before .before .before .before .before .before .before .before .before .args .centroids .now) (omega (arith, c .before .shorter2 .ensures)))
 
 sort-into-requires : tie.Need-sort-into-requires
 sort-into-requires c κs = search needs
 
 slice-aggregate-take-by : tie.Need-slice-aggregate-take-by
-slice-aggregate-take-by c = sym (length-take-le (c .before .before .before .before .before .before .smaller2 .result) (c .before .before .before .before .before .before .before .before .before .before .before .before .before .before .before .before .before .before .before .before .before .before .args .centroids .now) (omega (arith, c .before .before .before .before .before .before .smaller2 .ensures)))
+slice-aggregate-take-by c = sym (length-take-le (c .before .before .before .before .before .before .shorter2 .result) (c .before .before .before .before .before .before .before .before .before .before .before .before .before .before .before .before .before .before .before .before .before .before .args .centroids .now) (omega (arith, c .before .before .before .before .before .before .shorter2 .ensures)))
 
 slice-reshare-prefix-take-by : tie.Need-slice-reshare-prefix-take-by
-slice-reshare-prefix-take-by c = omega (arith, c .before .before .before .before .before .before .before .smaller .ensures, c .before .before .before .before .before .before .smaller2 .ensures, c .before .before .before .sort-into .kept .1 .0)
+slice-reshare-prefix-take-by c = omega (arith, c .before .before .before .before .before .before .before .shorter .ensures, c .before .before .before .before .before .before .shorter2 .ensures, c .before .before .before .sort-into .kept .1 .0)
 
 slice-aggregate-take-by-2 : tie.Need-slice-aggregate-take-by-2
-slice-aggregate-take-by-2 c = sym (length-take-le (c .before .before .before .before .before .before .before .smaller2 .result) (c .before .before .before .before .sort-into .last .1 .0) (omega (arith, c .before .before .before .before .before .before .before .before .smaller .ensures, c .before .before .before .before .before .before .before .smaller2 .ensures, c .before .before .before .before .sort-into .kept .1 .0)))
+slice-aggregate-take-by-2 c = sym (length-take-le (c .before .before .before .before .before .before .before .shorter2 .result) (c .before .before .before .before .sort-into .last .1 .0) (omega (arith, c .before .before .before .before .before .before .before .before .shorter .ensures, c .before .before .before .before .before .before .before .shorter2 .ensures, c .before .before .before .before .sort-into .kept .1 .0)))
 
 take-by-requires : tie.Need-take-by-requires
 take-by-requires c κs = search needs
@@ -65,7 +65,7 @@ same-length-9 c = c .before .before .before .before .before .before .before .bef
 
 returns : tie.Need-returns
 returns c = let a = c .before .before .before .before .before .before .before .before .before .before .before .before .before .before .before .before .before .before .before .before .before .before .before .before .before .before .before .before .before .before .before .before .before .before .before .before .before .before .before .before .before .before .before .before .before .before .before .before .before .before .before .before .args in let f = c .before .before .before .before .before .before .before .before .before .before .before .before .before .before .before .before .before .before .before .before .take-by in let k = c .before .before .before .before .before .before .before .before .before .before .before .before .before .before .before .before .before .before .before .before .before .before .before .before .before .before .before .before .before .before .before .before .before .sort-into in (
-  taken-by (a .algorithm) (documents (a .offsets .now) (a .components .now) (a .values .now)) (a .minimum) (a .centroids .now) (a .known .now) (k .last .1 .0) (length (a .competing .now)) (length (a .starts .now)) (length (a .slots .now)) (length (a .weights .now)) (length (a .scores .now)) (length (a .counts .now)) (length (a .keys .now)) (take (length (a .taken .now)) (a .ids .now)) (drop (length (a .ids .now)) (a .taken .now)) (f .last .1 .1 .1 .1 .1 .1 .1 .1 .1 .1 .1 .1 .1 .1 .1 .0) (c .before .before .before .before .before .before .before .before .before .before .before .before .before .before .before .before .before .before .before .before .before .before .before .before .before .before .before .before .before .before .before .before .before .before .before .before .before .smaller .result) (c .before .before .before .before .before .before .before .before .before .before .before .before .before .before .before .before .before .before .before .before .before .before .before .before .before .before .before .before .before .before .before .before .before .before .before .before .smaller2 .result) (c .before .before .before .before .before .before .before .before .before .before .before .before .before .before .before .before .before .before .before .before .before .before .before .before .before .before .before .before .before .before .before .before .before .before .before .before .before .smaller .ensures) (c .before .before .before .before .before .before .before .before .before .before .before .before .before .before .before .before .before .before .before .before .before .before .before .before .before .before .before .before .before .before .before .before .before .before .before .before .smaller2 .ensures) (k .ensures) (f .ensures .0),
+  taken-by (a .algorithm) (documents (a .offsets .now) (a .components .now) (a .values .now)) (a .minimum) (a .centroids .now) (a .known .now) (k .last .1 .0) (length (a .competing .now)) (length (a .starts .now)) (length (a .slots .now)) (length (a .weights .now)) (length (a .scores .now)) (length (a .counts .now)) (length (a .keys .now)) (take (length (a .taken .now)) (a .ids .now)) (drop (length (a .ids .now)) (a .taken .now)) (f .last .1 .1 .1 .1 .1 .1 .1 .1 .1 .1 .1 .1 .1 .1 .1 .0) (c .before .before .before .before .before .before .before .before .before .before .before .before .before .before .before .before .before .before .before .before .before .before .before .before .before .before .before .before .before .before .before .before .before .before .before .before .before .shorter .result) (c .before .before .before .before .before .before .before .before .before .before .before .before .before .before .before .before .before .before .before .before .before .before .before .before .before .before .before .before .before .before .before .before .before .before .before .before .shorter2 .result) (c .before .before .before .before .before .before .before .before .before .before .before .before .before .before .before .before .before .before .before .before .before .before .before .before .before .before .before .before .before .before .before .before .before .before .before .before .before .shorter .ensures) (c .before .before .before .before .before .before .before .before .before .before .before .before .before .before .before .before .before .before .before .before .before .before .before .before .before .before .before .before .before .before .before .before .before .before .before .before .shorter2 .ensures) (k .ensures) (f .ensures .0),
   c .before .before .clear-u64 .ensures ∙ ap (λ n. replicate n 0) (k .kept .1 .0),
   f .ensures .1,
   f .ensures .2,
@@ -80,8 +80,8 @@ pub assign-spec : {M : Type 1} → statement M
 assign-spec =
     tie.close
     (tie.spec
-    smaller-requires
-    smaller-requires-2
+    shorter-requires
+    shorter-requires-2
     slice-aggregate-sort-into
     sort-into-requires
     slice-aggregate-take-by

@@ -19,14 +19,14 @@ abbrev μ-loop : tie.MeasureT-loop
 μ-loop query-components query-values components offsets ids codes minimums steps scores₀ n terms place₀ last₀ i₀ scores place last i =
     terms - i
 
-lesser-requires : tie.Need-lesser-requires Inv-loop μ-loop
-lesser-requires c κs = search needs
+shorter-requires : tie.Need-shorter-requires Inv-loop μ-loop
+shorter-requires c κs = search needs
 
-lesser-requires-2 : tie.Need-lesser-requires-2 Inv-loop μ-loop
-lesser-requires-2 c κs = search needs
+shorter-requires-2 : tie.Need-shorter-requires-2 Inv-loop μ-loop
+shorter-requires-2 c κs = search needs
 
-lesser-requires-3 : tie.Need-lesser-requires-3 Inv-loop μ-loop
-lesser-requires-3 c κs = search needs
+shorter-requires-3 : tie.Need-shorter-requires-3 Inv-loop μ-loop
+shorter-requires-3 c κs = search needs
 
 clear-requires : tie.Need-clear-requires Inv-loop μ-loop
 clear-requires c κs = search needs
@@ -59,13 +59,13 @@ loop-less : tie.Need-loop-less Inv-loop μ-loop
 loop-less c = search needs
 
 loop-again : tie.Need-loop-again Inv-loop μ-loop
-loop-again c = let a = c .before .before .before .before .before .before .before .before .before .before .before .before .before .before .before .before .before .before .before .before .before .before .before .before .before .args in let l = c .before .before .before .before .before .before .before .before .loop in (search needs, c .before .before .before .before .before .next-place .ensures, query-turn (a .query-components .now) (a .query-values .now) (c .before .before .before .before .before .before .before .before .before .before .before .before .before .before .lesser2 .result) (a .components .now) (a .offsets .now) (a .ids .now) (a .codes .now) (a .minimums .now) (a .steps .now) (l .i) (c .before .before .before .before .before .before .before .before .before .before .before .before .before .lesser3 .result) (c .before .before .before .before .before .next-place .result) (l .scores) _ (c .before .before .before .before .before .before .before .before .before .before .before .before .before .lesser3 .ensures) (c .before .before .before .before .before .before .before .loop-test .taken) (c .before .before .before .before .before .next-place .ensures) (c .before .before .add-term .ensures) ∙ l .inv .2)
+loop-again c = let a = c .before .before .before .before .before .before .before .before .before .before .before .before .before .before .before .before .before .before .before .before .before .before .before .before .before .args in let l = c .before .before .before .before .before .before .before .before .loop in (search needs, c .before .before .before .before .before .next-place .ensures, query-turn (a .query-components .now) (a .query-values .now) (c .before .before .before .before .before .before .before .before .before .before .before .before .before .before .shorter2 .result) (a .components .now) (a .offsets .now) (a .ids .now) (a .codes .now) (a .minimums .now) (a .steps .now) (l .i) (c .before .before .before .before .before .before .before .before .before .before .before .before .before .shorter3 .result) (c .before .before .before .before .before .next-place .result) (l .scores) _ (c .before .before .before .before .before .before .before .before .before .before .before .before .before .shorter3 .ensures) (c .before .before .before .before .before .before .before .loop-test .taken) (c .before .before .before .before .before .next-place .ensures) (c .before .before .add-term .ensures) ∙ l .inv .2)
 
 same-length : tie.Need-same-length Inv-loop μ-loop
 same-length c = search needs
 
 returns : tie.Need-returns Inv-loop μ-loop
-returns c = let a = c .before .before .before .before .before .before .before .before .before .before .before .before .before .before .before .before .before .before .args in let l = c .before .loop in let all = arrays (a .components .now) (a .offsets .now) (a .ids .now) (a .codes .now) (a .minimums .now) (a .steps .now) in all-scored (a .query-components .now) (a .query-values .now) all (c .before .before .before .before .before .before .before .lesser2 .result) (c .before .before .before .before .before .before .before .before .lesser .result) (a .scores .now) (c .before .before .before .before .clear .last .1 .0) (l .scores) (c .before .before .before .before .before .before .before .before .lesser .ensures) (c .before .before .before .before .before .before .before .lesser2 .ensures) (c .before .before .before .before .clear .ensures) (sym (query-end (a .query-components .now) (a .query-values .now) (c .before .before .before .before .before .before .before .lesser2 .result) all (l .i) (c .before .before .before .before .before .before .lesser3 .result) (l .scores) (c .before .before .before .before .before .before .lesser3 .ensures) (c .loop-test .left)) ∙ l .inv .2)
+returns c = let a = c .before .before .before .before .before .before .before .before .before .before .before .before .before .before .before .before .before .before .args in let l = c .before .loop in let all = arrays (a .components .now) (a .offsets .now) (a .ids .now) (a .codes .now) (a .minimums .now) (a .steps .now) in all-scored (a .query-components .now) (a .query-values .now) all (c .before .before .before .before .before .before .before .shorter2 .result) (c .before .before .before .before .before .before .before .before .shorter .result) (a .scores .now) (c .before .before .before .before .clear .last .1 .0) (l .scores) (c .before .before .before .before .before .before .before .before .shorter .ensures) (c .before .before .before .before .before .before .before .shorter2 .ensures) (c .before .before .before .before .clear .ensures) (sym (query-end (a .query-components .now) (a .query-values .now) (c .before .before .before .before .before .before .before .shorter2 .result) all (l .i) (c .before .before .before .before .before .before .shorter3 .result) (l .scores) (c .before .before .before .before .before .before .shorter3 .ensures) (c .loop-test .left)) ∙ l .inv .2)
 
 pub distances-spec : {M : Type 1} → statement M
 distances-spec =
@@ -73,9 +73,9 @@ distances-spec =
     (tie.spec
     Inv-loop
     μ-loop
-    lesser-requires
-    lesser-requires-2
-    lesser-requires-3
+    shorter-requires
+    shorter-requires-2
+    shorter-requires-3
     clear-requires
     loop-holds
     mul-c
