@@ -3,7 +3,7 @@ use Prim.Native.Nat.{ℕ, _≤_, _<_, _^_, min}
 use native.Mathlib.Omega.{arith}
 use mathlib.Core.Path.{_≡_, refl, sym, ap, _∙_}
 use mathlib.Core.Bool.{Bool, true, false, not, cond}
-use mathlib.Core.List.{List, [], _∷_, _++_, map}
+use mathlib.Core.List.{List, [], _∷_, _++_, map, zipWith}
 use lib.ListN.{length, getD, take, drop, replicate, length-map, length-take}
 use lib.Seq.{take-at, take-all}
 use lib.Ieee.{Float}
@@ -27,19 +27,14 @@ use Rattle.passes.specs.Passes.{over, over-map, over-mapped, cut-take, cut-drop
 use Rattle.passes.specs.Indexes.{indexDocuments, Indexes, rest, scores-are, indexes-some}
 use Rattle.passes.specs.Sizes.{small-is, each-same}
 use Rattle.passes.specs.Room.{Room}
+use Rattle.approximate_taking.specs.Taking.{nearlyChoice, againRank}
 
 -- ---- what the passes leave, for slices of any length: s offsets, a slots, b weights, n scores, k counters, q keys
--- the last greatest of those that compete, by the largest of the terms that find a place
-abbrev pub nearlyChoice : ℕ → ℕ → List ℕ → Documents → ℕ → ℕ → Documents → ℕ → ℕ
-nearlyChoice cut first competing index n q d i = lastNoLess first competing (scoresOf index n (largest cut (take q (terms d i))))
-
--- the centroids whose groups don't
+-- the centroids whose groups don't dissolve
 abbrev pub remaining : List ℕ → List ℕ → ℕ → List ℕ → List ℕ
 remaining known counts minimum centroids = those (λ c. not (isSmall counts minimum (rankIn known c))) centroids
 
-abbrev pub againRank : List ℕ → List ℕ → ℕ → ℕ → ℕ → List ℕ → Documents → ℕ → ℕ → Documents → ℕ → ℕ → ℕ
-againRank known counts minimum cut first competing index n q d i r = cond (isSmall counts minimum r) (rankIn known (nearlyChoice cut first competing index n q d i)) r
-
+-- a rank after the first pass
 abbrev pub nearlyRanks : Documents → ℕ → List ℕ → List ℕ → ℕ → ℕ → ℕ → ℕ → ℕ → ℕ → ℕ
 nearlyRanks d cut centroids known s a b n q i = rankIn known (nearlyChoice cut (firstOr 0 centroids) centroids (indexDocuments (indexed d centroids s a b)) n q d i)
 
@@ -139,16 +134,34 @@ module _ (d : Documents) (cut minimum : ℕ) (centroids : List ℕ) (s a b n k q
   unfolding approximately
   approximately-is = sym (reassign-is minimum firstNearly againNearly ids)
 
+-- ---- documents cut to the places there are for them
+over-take : (f : ℕ → ℕ → ℕ) (ids ts : List ℕ) → over f ids ts ≡ over f (take (length ts) ids) ts
+unfolding zipWith
+over-take f [] [] = refl
+over-take f [] (t ∷ ts) = refl
+over-take f (i ∷ ids) [] = refl
+over-take f (i ∷ ids) (t ∷ ts) = ap (λ l. f i t ∷ l) (over-take f ids ts)
+
+drop-take : (ids ts : List ℕ) → drop (length (take (length ts) ids)) ts ≡ drop (length ids) ts
+drop-take ids ts = cut-drop ids ts (length (take (length ts) ids)) (let l = length-take (length ts) ids in omega arith)
+
 -- ---- the steps one after another
--- the first pass over the index of all centroids, and counts
-pub assigned-first : (d : Documents) (cut : ℕ) (C K : List ℕ) (s a b n k q : ℕ) (ids t S F : List ℕ) (W : List Float) (m : ℕ) (t1 z counts : List ℕ) → laidOut S F W ≡ indexed d C s a b → length ids ≤ length t
-    → t1 ≡ over (λ i r. rankIn K (nearlyChoice cut m C (documents S F W) n q d i)) ids t → m ≡ firstOr 0 C → z ≡ replicate k 0 → counts ≡ counted z (take (length ids) t1)
-    → (t1 ≡ map (nearlyRanks d cut C K s a b n q) ids ++ drop (length ids) t) × (counts ≡ countsOf d cut C K s a b n k q ids)
-assigned-first d cut C K s a b n k q ids t S F W m t1 z counts f h p e y c =
+-- the first pass over the index of all centroids, and counts of those that found a place
+pub assigned-first : (d : Documents) (cut : ℕ) (C K : List ℕ) (s a b n k q : ℕ) (ids t S F : List ℕ) (W : List Float) (m : ℕ) (t1 z counts : List ℕ) (i : ℕ) → laidOut S F W ≡ indexed d C s a b
+    → t1 ≡ over (λ i r. rankIn K (nearlyChoice cut m C (documents S F W) n q d i)) ids t → m ≡ firstOr 0 C → z ≡ replicate k 0 → i ≡ min (length ids) (length t1) → length t1 ≡ length t → counts ≡ counted z (take i t1)
+    → (t1 ≡ map (nearlyRanks d cut C K s a b n q) (take (length t) ids) ++ drop (length ids) t) × (counts ≡ countsOf d cut C K s a b n k q (take (length t) ids))
+assigned-first d cut C K s a b n k q ids t S F W m t1 z counts i f p e y h l c =
     let R : ℕ → ℕ = nearlyRanks d cut C K s a b n q in
+    let J : List ℕ = take (length t) ids in
+    let J-length : length J ≡ min (length t) (length ids) = length-take (length t) ids in
     let I : documents S F W ≡ indexDocuments (indexed d C s a b) = ap indexDocuments f in
-    let P : t1 ≡ map R ids ++ drop (length ids) t = p ∙ (λ j. over (λ i r. rankIn K (nearlyChoice cut (e j) C (I j) n q d i)) ids t) ∙ over-map R ids t h in
-    let T : take (length ids) t1 ≡ map R ids = ap (take (length ids)) P ∙ take-at (map R ids) (drop (length ids) t) (length ids) (length-map ids R) in
+    let P : t1 ≡ map R J ++ drop (length ids) t =
+    p
+    ∙ (λ j. over (λ i r. rankIn K (nearlyChoice cut (e j) C (I j) n q d i)) ids t)
+    ∙ over-take (λ i r. R i) ids t
+    ∙ over-map R J t (omega (arith, J-length))
+    ∙ ap (λ r. map R J ++ r) (drop-take ids t) in
+    let T : take i t1 ≡ map R J = ap (take i) P ∙ take-at (map R J) (drop (length ids) t) i (length-map J R ∙ omega (arith, J-length, h, l)) in
     (P, c ∙ (λ j. counted (y j) (T j)))
 
 -- the second pass over the index of those that remain
@@ -159,24 +172,22 @@ assigned-again d cut minimum C K s a b n q ids counts t G S F W m t2 g f e p =
     ∙ ap (λ x. over (againRank K counts minimum cut m G x n q d) ids t) (ap indexDocuments f)
     ∙ (λ j. over (againRank K counts minimum cut (e j) (g j) (indexDocuments (indexed d (g j) s a b)) n q d) ids t)
 
--- both
-pub assigned-both : (d : Documents) (cut minimum : ℕ) (C K : List ℕ) (s a b n k q : ℕ) (ids t t1 counts t2 : List ℕ) (s' a' b' n' q' : ℕ)
-    → t1 ≡ map (nearlyRanks d cut C K s a b n q) ids ++ drop (length ids) t → counts ≡ countsOf d cut C K s a b n k q ids → s' ≡ s → a' ≡ a → b' ≡ b → n' ≡ n → q' ≡ q
-    → t2 ≡ over (bothRanks d cut minimum C K counts s' a' b' n' q') ids t1 → t2 ≡ approximateRanks d cut minimum C K s a b n k q ids ++ drop (length ids) t
+-- both, of the m centroids that find a place to be gathered in
+pub assigned-both : (d : Documents) (cut minimum : ℕ) (C K competing : List ℕ) (s a b n k q : ℕ) (ids t t1 counts t2 : List ℕ) (s' a' b' n' q' m : ℕ) → m ≡ min (length C) (length competing)
+    → t1 ≡ map (nearlyRanks d cut (take m C) K s a b n q) (take (length t) ids) ++ drop (length ids) t → counts ≡ countsOf d cut (take m C) K s a b n k q (take (length t) ids) → length t1 ≡ length t
+    → s' ≡ s → a' ≡ a → b' ≡ b → n' ≡ n → q' ≡ q → t2 ≡ over (bothRanks d cut minimum (take m C) K counts s' a' b' n' q') ids t1
+    → t2 ≡ approximateRanks d cut minimum (take (length competing) C) K s a b n k q (take (length t) ids) ++ drop (length ids) t
 unfolding approximateRanks
-assigned-both d cut minimum C K s a b n k q ids t t1 counts t2 s' a' b' n' q' p c es ea eb en eq e =
+assigned-both d cut minimum C K competing s a b n k q ids t t1 counts t2 s' a' b' n' q' m f p c l es ea eb en eq e =
+    let J : List ℕ = take (length t) ids in
+    let B : ℕ → ℕ → ℕ = bothRanks d cut minimum (take m C) K (countsOf d cut (take m C) K s a b n k q J) s a b n q in
     e
-    ∙ (λ j. over (bothRanks d cut minimum C K (c j) (es j) (ea j) (eb j) (en j) (eq j)) ids (p j))
-    ∙ over-mapped (bothRanks d cut minimum C K (countsOf d cut C K s a b n k q ids) s a b n q) (nearlyRanks d cut C K s a b n q) ids (drop (length ids) t)
+    ∙ (λ j. over (bothRanks d cut minimum (take m C) K (c j) (es j) (ea j) (eb j) (en j) (eq j)) ids t1)
+    ∙ over-take B ids t1
+    ∙ (λ j. over B (take (l j) ids) (p j))
+    ∙ over-mapped B (nearlyRanks d cut (take m C) K s a b n q) J (drop (length ids) t)
+    ∙ ap (λ x. approximateRanks d cut minimum x K s a b n k q J ++ drop (length ids) t) (cut-take C competing m f)
 
 pub approximate-length : (d : Documents) (cut minimum : ℕ) (C K : List ℕ) (s a b n k q : ℕ) (ids : List ℕ) → length (approximateRanks d cut minimum C K s a b n k q ids) ≡ length ids
 unfolding approximateRanks
 approximate-length d cut minimum C K s a b n k q ids = length-map ids _
-
--- ---- cut to the room there is
-pub assigned-cut : (d : Documents) (cut minimum : ℕ) (C K competing : List ℕ) (s a b n k q : ℕ) (ids t : List ℕ) (i m : ℕ) (t2 : List ℕ) → i ≡ min (length ids) (length t) → m ≡ min (length C) (length competing)
-    → t2 ≡ approximateRanks d cut minimum (take m C) K s a b n k q (take i ids) ++ drop (length (take i ids)) t
-    → t2 ≡ approximateRanks d cut minimum (take (length competing) C) K s a b n k q (take (length t) ids) ++ drop (length ids) t
-assigned-cut d cut minimum C K competing s a b n k q ids t i m t2 e f p =
-    let l : length (take i ids) ≡ i = length-take i ids ∙ omega arith in
-    p ∙ (λ j. approximateRanks d cut minimum (cut-take C competing m f j) K s a b n k q (cut-take ids t i e j) ++ (ap (λ z. drop z t) l ∙ cut-drop ids t i e) j)

@@ -1,19 +1,22 @@
-// Both passes, one after the other, where there is room for the documents and the centroids.
+// Both passes, each over the index of the centroids that compete in it.
 use crate::gathering::gather;
-use crate::taking::first_pass;
-use crate::taking::second_pass;
+use approximate_taking::first_pass;
+use approximate_taking::second_pass;
 use ranking::first_of;
+use turns::least;
 ghost use mathlib.Core.Path.{_≡_};
+ghost use mathlib.Core.Bool.{false};
 ghost use mathlib.Core.List.{_++_, map};
 ghost use Prim.Native.Nat.{_≤_};
-ghost use lib.ListN.{length, drop, replicate};
+ghost use lib.IntN.{pos};
+ghost use lib.Ieee.{fin};
+ghost use lib.ListN.{length, take, drop, replicate};
 ghost use Rattle.documents.specs.Documents.{documents};
 ghost use Rattle.passes.specs.Passes.{over};
-ghost use Rattle.slot_scores.specs.Met.{none, Clear};
-ghost use Rattle.approximate_passes.specs.Approximate.{nearlyRanks, countsOf, bothRanks, approximateRanks};
+ghost use Rattle.approximate_passes.specs.Approximate.{nearlyRanks, countsOf, bothRanks};
 
 // Fills the index of all centroids, takes each document for the first time, and counts by rank.
-fn assign_first(
+pub(crate) fn assign_first(
     offsets: &[u64],
     components: &[u32],
     values: &[f32],
@@ -29,12 +32,10 @@ fn assign_first(
     keys: &mut [u64],
     taken: &mut [u64],
 )
-    requires { ⌜ length (now ids) ≤ length (now taken) ⌝ }
     ensures { λ _. ⌜ (now (taken .exit) ≡ map (nearlyRanks (documents (now (offsets .entry)) (now (components .entry)) (now (values .entry))) cut (now (centroids .entry)) (now (known .entry))
-        (length (now (starts .entry))) (length (now (slots .entry))) (length (now (weights .entry))) (length (now (scores .entry))) (length (now (keys .entry)))) (now (ids .entry)) ++ drop (length (now (ids .entry))) (now (taken .entry)))
+        (length (now (starts .entry))) (length (now (slots .entry))) (length (now (weights .entry))) (length (now (scores .entry))) (length (now (keys .entry)))) (take (length (now (taken .entry))) (now (ids .entry))) ++ drop (length (now (ids .entry))) (now (taken .entry)))
         × (now (counts .exit) ≡ countsOf (documents (now (offsets .entry)) (now (components .entry)) (now (values .entry))) cut (now (centroids .entry)) (now (known .entry))
-        (length (now (starts .entry))) (length (now (slots .entry))) (length (now (weights .entry))) (length (now (scores .entry))) (length (now (counts .entry))) (length (now (keys .entry))) (now (ids .entry)))
-        × (now (scores .exit) ≡ replicate (length (now (scores .entry))) none) ⌝ }
+        (length (now (starts .entry))) (length (now (slots .entry))) (length (now (weights .entry))) (length (now (scores .entry))) (length (now (counts .entry))) (length (now (keys .entry))) (take (length (now (taken .entry))) (now (ids .entry)))) ⌝ }
 {
     centroid_index::fill(
         offsets,
@@ -63,12 +64,32 @@ fn assign_first(
         taken,
     );
     clearing::clear_u64(counts);
-    let n = ids.len();
+    let n = least(ids.len() as u64, taken.len());
     counting::count(&taken[..n], counts);
 }
 
-// Gathers the centroids that remain, fills their index, and takes the documents of dissolved groups again.
-fn assign_again(
+// Sets the work space that the passes leave filled to zero.
+fn clear(
+    competing: &mut [u64],
+    counts: &mut [u64],
+    starts: &mut [u64],
+    slots: &mut [u64],
+    weights: &mut [f32],
+)
+    ensures { λ _. ⌜ (now (competing .exit) ≡ replicate (length (now (competing .entry))) 0) × (now (counts .exit) ≡ replicate (length (now (counts .entry))) 0)
+        × (now (starts .exit) ≡ replicate (length (now (starts .entry))) 0) × (now (slots .exit) ≡ replicate (length (now (slots .entry))) 0)
+        × (now (weights .exit) ≡ replicate (length (now (weights .entry))) (fin false 0 (pos 0))) ⌝ }
+{
+    clearing::clear_u64(competing);
+    clearing::clear_u64(counts);
+    clearing::clear_u64(starts);
+    clearing::clear_u64(slots);
+    clearing::clear_f32(weights);
+}
+
+// Gathers the centroids that remain, fills their index, and takes the documents of dissolved groups again. The work space is all zero
+// afterwards.
+pub(crate) fn assign_again(
     offsets: &[u64],
     components: &[u32],
     values: &[f32],
@@ -77,8 +98,8 @@ fn assign_again(
     minimum: u64,
     centroids: &[u64],
     known: &[u64],
-    counts: &[u64],
     competing: &mut [u64],
+    counts: &mut [u64],
     starts: &mut [u64],
     slots: &mut [u64],
     weights: &mut [f32],
@@ -86,9 +107,13 @@ fn assign_again(
     keys: &mut [u64],
     taken: &mut [u64],
 )
-    requires { ⌜ (length (now ids) ≤ length (now taken)) × (length (now centroids) ≤ length (now competing)) × Clear (now scores) ⌝ }
-    ensures { λ _. ⌜ now (taken .exit) ≡ over (bothRanks (documents (now (offsets .entry)) (now (components .entry)) (now (values .entry))) cut minimum (now (centroids .entry)) (now (known .entry)) (now (counts .entry))
-        (length (now (starts .entry))) (length (now (slots .entry))) (length (now (weights .entry))) (length (now (scores .entry))) (length (now (keys .entry)))) (now (ids .entry)) (now (taken .entry)) ⌝ }
+    requires { ⌜ length (now centroids) ≤ length (now competing) ⌝ }
+    ensures { λ _. ⌜ (now (taken .exit) ≡ over (bothRanks (documents (now (offsets .entry)) (now (components .entry)) (now (values .entry))) cut minimum (now (centroids .entry)) (now (known .entry)) (now (counts .entry))
+        (length (now (starts .entry))) (length (now (slots .entry))) (length (now (weights .entry))) (length (now (scores .entry))) (length (now (keys .entry)))) (now (ids .entry)) (now (taken .entry)))
+        × (now (competing .exit) ≡ replicate (length (now (competing .entry))) 0) × (now (counts .exit) ≡ replicate (length (now (counts .entry))) 0)
+        × (now (starts .exit) ≡ replicate (length (now (starts .entry))) 0) × (now (slots .exit) ≡ replicate (length (now (slots .entry))) 0)
+        × (now (weights .exit) ≡ replicate (length (now (weights .entry))) (fin false 0 (pos 0))) × (now (scores .exit) ≡ replicate (length (now (scores .entry))) (fin false 0 (pos 0)))
+        × (now (keys .exit) ≡ replicate (length (now (keys .entry))) 0) ⌝ }
 {
     let m = gather(minimum, centroids, known, counts, competing);
     centroid_index::fill(
@@ -119,64 +144,5 @@ fn assign_again(
         keys,
         taken,
     );
-}
-
-// Takes each document twice, by ranks of centroids: first all centroids compete, then those whose groups did not dissolve.
-pub(crate) fn assign_both(
-    offsets: &[u64],
-    components: &[u32],
-    values: &[f32],
-    ids: &[u64],
-    cut: u64,
-    minimum: u64,
-    centroids: &[u64],
-    known: &[u64],
-    competing: &mut [u64],
-    counts: &mut [u64],
-    starts: &mut [u64],
-    slots: &mut [u64],
-    weights: &mut [f32],
-    scores: &mut [f32],
-    keys: &mut [u64],
-    taken: &mut [u64],
-)
-    requires { ⌜ (length (now ids) ≤ length (now taken)) × (length (now centroids) ≤ length (now competing)) ⌝ }
-    ensures { λ _. ⌜ now (taken .exit) ≡ approximateRanks (documents (now (offsets .entry)) (now (components .entry)) (now (values .entry))) cut minimum (now (centroids .entry)) (now (known .entry))
-        (length (now (starts .entry))) (length (now (slots .entry))) (length (now (weights .entry))) (length (now (scores .entry))) (length (now (counts .entry))) (length (now (keys .entry))) (now (ids .entry))
-        ++ drop (length (now (ids .entry))) (now (taken .entry)) ⌝ }
-{
-    assign_first(
-        offsets,
-        components,
-        values,
-        ids,
-        cut,
-        centroids,
-        known,
-        counts,
-        starts,
-        slots,
-        weights,
-        scores,
-        keys,
-        taken,
-    );
-    assign_again(
-        offsets,
-        components,
-        values,
-        ids,
-        cut,
-        minimum,
-        centroids,
-        known,
-        counts,
-        competing,
-        starts,
-        slots,
-        weights,
-        scores,
-        keys,
-        taken,
-    );
+    clear(competing, counts, starts, slots, weights);
 }

@@ -1,15 +1,14 @@
 -- Clusters in scratch that was zero: what clustering leaves is the list's documents and offsets, and zeros. Assumes nothing.
-use Prim.Native.Nat.{ℕ, zero, suc, _+_, _-_, _*_, _≤_, _<_}
+use Prim.Native.Nat.{ℕ, zero, suc, _+_, _-_, _≤_, _<_}
 use native.Mathlib.Omega.{arith}
 use native.Mathlib.Numerals.{add-one}
 use mathlib.Core.Path.{_≡_, refl, sym, ap, _∙_}
-use mathlib.Core.Bool.{Bool, true, false, _&&_, true≢false}
-use mathlib.Core.List.{List, [], _∷_, _++_, map}
-use lib.ListN.{length, drop, replicate, length-map}
+use mathlib.Core.Bool.{true, false, _&&_, true≢false}
+use mathlib.Core.List.{List, [], _∷_, _++_}
+use lib.ListN.{length, drop, replicate}
 use lib.Seq.{sets, sets-eq}
 use lib.Dec.{leb, ltb, eqb}
-use borrow.Author.Tests.{ltb-true, lt-ltb, eqb-false, not-false}
-use Rattle.refusal.specs.declared.Refusal.{Refusal}
+use borrow.Author.Tests.{ltb-true, lt-ltb, not-false}
 use Rattle.refusal.specs.declared.Verdict.the-variants as verdict
 use Rattle.refusal.specs.First.{firstOf, faultless}
 use Rattle.configuration.specs.declared.ClusteringAlgorithm.{ClusteringAlgorithm}
@@ -21,19 +20,16 @@ use Rattle.lists.specs.Groups.{offsets-count}
 use Rattle.documents.specs.Documents.{Documents}
 use Rattle.documents.specs.Laws.{both}
 use Rattle.centroid_index.specs.Index.{entries}
-use Rattle.clusters.specs.Clusters.{reassign, exactly, approximately, assignedBy, clusters, documentOf}
-use Rattle.clustering.specs.declared.Clustered.{Clustered}
-use Rattle.clustering.specs.declared.Clustered.the-variants as clustered
+use Rattle.clusters.specs.Clusters.{reassign, exactly, approximately, assignedBy, clusters}
 use Rattle.cluster_checks.specs.declared.Rooms.{Rooms}
-use Rattle.clustering.specs.Answers.{clusterTests, roomy, Lent, left as leftAfter, answered, offsetsOf, roomsOf}
+use Rattle.clustering.specs.Answers.{clusterTests, roomy, answered, offsetsOf, roomsOf}
 use Rattle.building.specs.Built.{Input, input, inClusters}
 use Rattle.building.specs.Building.{Scratches, scratches, laid, clearedScratch}
-use Rattle.building.specs.Shares.{assigned-documents}
-use Rattle.building.specs.Blocks.{blocks-few, blocks-within}
+use Rattle.building.specs.Blocks.{blocks-within}
 use Rattle.building.specs.Offsets.{clusters-long}
-use Rattle.list_ready.specs.declared.ListBlocks.the-variants.{Offsets, Refused}
-use Rattle.list_ready.specs.Made.{left, leftBy, holding}
-use Rattle.list_blocks.specs.Fits.{lentOf, GroupFits}
+use Rattle.list_ready.specs.declared.ListBlocks.the-variants.{Offsets}
+use Rattle.list_ready.specs.Made.{left, leftBy}
+use Rattle.list_groups.specs.Grouped.{lentOf, asBlocks, grouped}
 
 -- ---- an empty list
 none : (k : ClusteringAlgorithm) (d : Documents) (minimum : ℕ) (centroids : List ℕ) → clusters (assignedBy k d minimum centroids []) ≡ []
@@ -82,37 +78,27 @@ room-in n m dimension e r h =
     let z = both (a && b) (c && f) y .1 in
     ltb-true m (r .blocks) (both (ltb m (r .blocks)) (leb m (r .known)) (both c f z .0) .0)
 
--- ---- what clustering left
-abbrev scratchesOf : Lent → Scratches
-scratchesOf l = scratches (l .order) (l .blocks) (l .sorted) (l .known) (l .taken) (l .counts) (l .starts) (l .slots) (l .weights) (l .scores) (l .keys)
-
-abbrev blocksIn : Clustered → ℕ
-blocksIn (clustered.Refused r) = 0
-blocksIn (clustered.Blocks n) = n
-
-abbrev isBlocks : Clustered → Bool
-isBlocks (clustered.Refused r) = false
-isBlocks (clustered.Blocks n) = true
+-- ---- what clustering leaves
+-- the scratch is zero, and a list that is not empty can be clustered in it
+pub record GroupFits (s : Scratches) (dimension : ℕ) (d : Documents) (ids centroids : List ℕ) : Type 0 where
+  pub cleared : s ≡ clearedScratch s
+  pub accepted : (length ids ≡ 0 → ⊥) → firstOf (clusterTests dimension d ids centroids (roomsOf (lentOf s))) ≡ verdict.Accepted
 
 module _ (s : Scratches) (dimension minimum : ℕ) (k : ClusteringAlgorithm) (d : Documents) (ids centroids : List ℕ) (fits : GroupFits s dimension d ids centroids) where
   abbrev cs : List (List ℕ)
   cs = clusters (assignedBy k d minimum centroids ids)
 
-  pub empty-group : length ids ≡ 0 → left (Offsets 0) s ≡ leftBy verdict.Accepted (inClusters (clusters (assignedBy k d minimum centroids ids))) s
+  empty-group : length ids ≡ 0 → left (Offsets 0) s ≡ leftBy verdict.Accepted (inClusters (clusters (assignedBy k d minimum centroids ids))) s
   unfolding clearedScratch
   empty-group h = go ids h
     where
       go : (is : List ℕ) → length is ≡ 0 → left (Offsets 0) s ≡ leftBy verdict.Accepted (inClusters (clusters (assignedBy k d minimum centroids is))) s
-      go [] h = ap (left (Offsets 0)) (fits .zero) ∙ sym (ap (λ c. leftBy verdict.Accepted (inClusters c) s) (none k d minimum centroids))
+      go [] h = ap (left (Offsets 0)) (fits .cleared) ∙ sym (ap (λ c. leftBy verdict.Accepted (inClusters c) s) (none k d minimum centroids))
       go (i ∷ is) h = let z : ⊥ = omega arith in absurd z
 
-  module _ (some : length ids ≡ 0 → ⊥) (a : Clustered) (after : Lent)
-      (e : leftAfter a after ≡ answered (firstOf (clusterTests dimension d ids centroids (roomsOf (lentOf s)))) (length ids) (clusters (assignedBy k d minimum centroids ids)) (lentOf s)) where
+  module _ (some : length ids ≡ 0 → ⊥) where
     abbrev given : Input
     given = input dimension (blocking.FixedSize 0) (summarization.FixedSize 0) d ids centroids
-
-    done : leftAfter a after ≡ answered verdict.Accepted (length ids) cs (lentOf s)
-    done = e ∙ ap (λ v. answered v (length ids) cs (lentOf s)) (fits .accepted some)
 
     long : length (joined cs) ≡ length ids
     long = clusters-long k minimum given
@@ -129,30 +115,17 @@ module _ (s : Scratches) (dimension minimum : ℕ) (k : ClusteringAlgorithm) (d 
         has-some zero (suc n) h f = absurd (true≢false (sym (ap (λ b. b && true) (lt-ltb 0 (suc n) (omega arith))) ∙ f))
         has-some (suc m) n h f = omega arith
 
-    pub cluster-count : (count : ℕ) → a ≡ clustered.Blocks count → count ≡ length cs
-    cluster-count count w = ap blocksIn (sym w ∙ ap (λ l. l .answer) done)
-
-    pub cluster-few : (count : ℕ) → a ≡ clustered.Blocks count → count ≤ length ids
-    cluster-few count w =
-        let c = cluster-count count w in
-        let f = blocks-few (assignedBy k d minimum centroids ids) in
-        let m = length-map (assignedBy k d minimum centroids ids) documentOf in
-        let l = ap length (assigned-documents k minimum given) in
-        omega arith
-
-    pub cluster-accepted : (r : Refusal) → a ≡ clustered.Refused r → ⊥
-    cluster-accepted r w = true≢false (sym (ap isBlocks (sym w ∙ ap (λ l. l .answer) done)))
-
-    pub full-group : (count : ℕ) → a ≡ clustered.Blocks count → left (Offsets (count + 1)) (scratchesOf after) ≡ leftBy verdict.Accepted (inClusters (clusters (assignedBy k d minimum centroids ids))) s
+    full-group : asBlocks (answered (firstOf (clusterTests dimension d ids centroids (roomsOf (lentOf s)))) (length ids) (clusters (assignedBy k d minimum centroids ids)) (lentOf s)) ≡ leftBy verdict.Accepted (inClusters (clusters (assignedBy k d minimum centroids ids))) s
     unfolding clearedScratch
-    full-group count w =
-        ap (λ l. left (Offsets (count + 1)) (scratchesOf (l .lent))) done
-        ∙ (λ j. left (Offsets ((ap (λ n. n + 1) (cluster-count count w) ∙ count-is (length ids) some cs long) j))
+    full-group =
+        ap (λ v. asBlocks (answered v (length ids) cs (lentOf s))) (fits .accepted some)
+        ∙ (λ j. left (Offsets (count-is (length ids) some cs long j))
         (scratches
         (order-is (length ids) some cs (length (s .order)) long j)
-        (blocks-are (length ids) some cs (s .blocks) (replicate (length (s .blocks)) 0) long (ap (λ z. z .blocks) (fits .zero)) few j)
+        (blocks-are (length ids) some cs (s .blocks) (replicate (length (s .blocks)) 0) long (ap (λ z. z .blocks) (fits .cleared)) few j)
         (clearedScratch s .sorted) (clearedScratch s .known) (clearedScratch s .taken) (clearedScratch s .counts) (clearedScratch s .starts) (clearedScratch s .slots) (clearedScratch s .weights) (clearedScratch s .scores) (clearedScratch s .keys)))
 
--- a count of no more than a slice's entries has room for one more
-pub under : (n m : ℕ) → n ≤ m → m * 8 < 9223372036854775808 → n + 1 < 18446744073709551616
-under n m h r = omega arith
+pub group-is : (s : Scratches) (dimension minimum : ℕ) (k : ClusteringAlgorithm) (d : Documents) (ids centroids : List ℕ) → GroupFits s dimension d ids centroids
+    → grouped dimension minimum k d ids centroids s ≡ leftBy verdict.Accepted (inClusters (clusters (assignedBy k d minimum centroids ids))) s
+group-is s dimension minimum k d [] centroids fits = empty-group s dimension minimum k d [] centroids fits refl
+group-is s dimension minimum k d (i ∷ ids) centroids fits = full-group s dimension minimum k d (i ∷ ids) centroids fits (λ e. let z : ⊥ = omega arith in absurd z)

@@ -1,5 +1,5 @@
 -- The whole of making: what the verdict says of the parts, and what they leave together. Assumes nothing.
-use Prim.Native.Nat.{ℕ, suc, _+_, _*_, _/_, _≤_, _<_}
+use Prim.Native.Nat.{ℕ, suc, _+_, _/_, _≤_, _<_}
 use native.Mathlib.Omega.{arith}
 use native.Mathlib.Nat.{div-le-self}
 use mathlib.Core.Path.{_≡_, refl, sym, ap, _∙_, subst}
@@ -35,8 +35,10 @@ use Rattle.building.specs.Building.{Scratches, scratches, scratchLengths, laid,
 use Rattle.building.specs.Offsets.{right-count}
 use Rattle.list_ready.specs.declared.ListBlocks.{ListBlocks}
 use Rattle.list_ready.specs.declared.ListBlocks.the-variants.{Offsets, Refused}
-use Rattle.list_ready.specs.Made.{makeTests, left, leftBy, holding}
-use Rattle.list_blocks.specs.Fits.{lentOf, CutFits, GroupFits}
+use Rattle.list_ready.specs.Made.{makeTests, left, leftBy}
+use Rattle.list_groups.specs.Grouped.{lentOf, grouped}
+use Rattle.list_blocks.specs.Fits.{CutFits}
+use Rattle.list_blocks.proofs.Grouping.{GroupFits, group-is}
 
 -- ---- each buffer is as long as it must be
 pub record Fits (x l : Scratch) : Type 0 where
@@ -156,9 +158,9 @@ module _ (dimension : ℕ) (k : BlockingStrategy) (d : Documents) (ids centroids
         used : centroidsUsed k centroids ≡ centroids
         used = ap (λ k. centroidsUsed k centroids) q
 
-        pub group-fits : GroupFits z dimension d ids centroids
+        group-fits : GroupFits z dimension d ids centroids
         unfolding inputTests documentsHold scratchLengths
-        group-fits = record { zero = c ∙ sym (ap clearedScratch c ∙ cleared-twice s); accepted = λ some. accepted-by (clusterTests dimension d ids centroids (roomsOf (lentOf z))) (terms-hold, (centroid-there some, (ap not (has-room some), tt))) }
+        group-fits = record { cleared = c ∙ sym (ap clearedScratch c ∙ cleared-twice s); accepted = λ some. accepted-by (clusterTests dimension d ids centroids (roomsOf (lentOf z))) (terms-hold, (centroid-there some, (ap not (has-room some), tt))) }
           where
             terms-hold : not (documentsHold dimension d ids && documentsHold dimension d centroids) ≡ false
             terms-hold = ap not (sym (every-both (λ i. termsHoldBelow dimension (terms d i)) ids centroids) ∙ ap (λ l. every (λ i. termsHoldBelow dimension (terms d i)) (ids ++ l)) (sym used) ∙ not-false _ (faults .0 .1 .1 .0))
@@ -192,10 +194,10 @@ module _ (dimension : ℕ) (k : BlockingStrategy) (d : Documents) (ids centroids
                 roomy-by (length ids) (length centroids) dimension (length (entries d centroids)) (roomsOf (lentOf z))
                 (omega (arith, f .order)) (omega (arith, f .order, r .2)) (omega (arith, f .sorted)) (omega (arith, f .taken)) (omega (arith, f .blocks, r .2)) (omega (arith, f .known)) (omega (arith, f .counts)) (omega (arith, f .scores)) (omega (arith, f .starts)) (omega (arith, f .keys)) (omega (arith, f .slots)) (omega (arith, f .weights))
 
-        pub group-made : (r : ListBlocks) (after : Scratches) → left r after ≡ leftBy verdict.Accepted (inClusters (clusters (assignedBy algorithm d minimum centroids ids))) z → left r after ≡ leftBy (firstOf (makeTests dimension k d ids centroids s)) (blockedBy k d centroids ids) s
+        pub group-made : (r : ListBlocks) (after : Scratches) → left r after ≡ grouped dimension minimum algorithm d ids centroids z → left r after ≡ leftBy (firstOf (makeTests dimension k d ids centroids s)) (blockedBy k d centroids ids) s
         group-made r after w =
             accepted-as r after
-            (w ∙ ap (λ z. left (Offsets (length ((inClusters (clusters (assignedBy algorithm d minimum centroids ids))) .offsets))) (inFront z)) (ap clearedScratch c ∙ cleared-twice s)
+            (w ∙ group-is z dimension minimum algorithm d ids centroids group-fits ∙ ap (λ z. left (Offsets (length ((inClusters (clusters (assignedBy algorithm d minimum centroids ids))) .offsets))) (inFront z)) (ap clearedScratch c ∙ cleared-twice s)
             ∙ ap (λ k. leftBy verdict.Accepted (blockedBy k d centroids ids) s) (sym q))
           where
             inFront : Scratches → Scratches

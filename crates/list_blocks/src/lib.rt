@@ -1,22 +1,18 @@
 // The blocks of a posting list that is to be built, made in lent scratch: by a fixed size, or by clusters around given centroids.
 use blocking::BlockingAnswer;
-use clustering::Clustered;
 use configuration::BlockingStrategy;
-use configuration::ClusteringAlgorithm;
 use list_ready::ListBlocks;
 use refusal::Verdict;
 ghost use mathlib.Core.Path.{_≡_};
 ghost use Prim.Native.Nat.{_≤_};
 ghost use lib.ListN.{length};
-ghost use Rattle.refusal.specs.declared.Verdict.the-variants.{Accepted};
 ghost use Rattle.refusal.specs.First.{firstOf};
 ghost use Rattle.documents.specs.Documents.{documents};
 ghost use Rattle.blocking.specs.Blocking.{fixedOffsets};
-ghost use Rattle.clusters.specs.Clusters.{assignedBy, clusters};
-ghost use Rattle.building.specs.Built.{inClusters, blockedBy};
+ghost use Rattle.building.specs.Built.{blockedBy};
 ghost use Rattle.building.specs.Building.{scratches, laid};
 ghost use Rattle.list_ready.specs.Made.{makeTests, left, leftBy};
-ghost use Rattle.list_blocks.specs.Fits.{CutFits, GroupFits};
+ghost use Rattle.list_blocks.specs.Fits.{CutFits};
 
 // Copies the ids to the front of the order.
 fn copy(ids: &[u64], order: &mut [u64])
@@ -40,61 +36,6 @@ fn cut(block_size: u64, ids: &[u64], order: &mut [u64], blocks: &mut [u64]) -> u
     match blocking::fixed_size_blocking(ids.len() as u64, block_size, blocks) {
         BlockingAnswer::Written(count) => count,
         BlockingAnswer::Refused(_) => 0,
-    }
-}
-
-// Blocks by clusters: an empty list has none, whatever its centroids are.
-fn group(
-    dimension: u64,
-    minimum: u64,
-    algorithm: ClusteringAlgorithm,
-    offsets: &[u64],
-    components: &[u32],
-    values: &[f32],
-    ids: &[u64],
-    centroids: &[u64],
-    order: &mut [u64],
-    blocks: &mut [u64],
-    sorted: &mut [u64],
-    known: &mut [u64],
-    taken: &mut [u64],
-    counts: &mut [u64],
-    starts: &mut [u64],
-    slots: &mut [u64],
-    weights: &mut [f32],
-    scores: &mut [f32],
-    keys: &mut [u64],
-) -> ListBlocks
-    requires { ⌜ GroupFits (scratches (now order) (now blocks) (now sorted) (now known) (now taken) (now counts) (now starts) (now slots) (now weights) (now scores) (now keys)) dimension (documents (now offsets) (now components) (now values)) (now ids) (now centroids) ⌝ }
-    ensures { λ r. ⌜ left r (scratches (now (order .exit)) (now (blocks .exit)) (now (sorted .exit)) (now (known .exit)) (now (taken .exit)) (now (counts .exit)) (now (starts .exit)) (now (slots .exit)) (now (weights .exit)) (now (scores .exit)) (now (keys .exit)))
-        ≡ leftBy Accepted (inClusters (clusters (assignedBy algorithm (documents (now (offsets .entry)) (now (components .entry)) (now (values .entry))) minimum (now (centroids .entry)) (now (ids .entry))))) (scratches (now (order .entry)) (now (blocks .entry)) (now (sorted .entry)) (now (known .entry)) (now (taken .entry)) (now (counts .entry)) (now (starts .entry)) (now (slots .entry)) (now (weights .entry)) (now (scores .entry)) (now (keys .entry))) ⌝ }
-{
-    if ids.len() == 0 {
-        return ListBlocks::Offsets(0);
-    }
-    match clustering::cluster(
-        dimension,
-        minimum,
-        algorithm,
-        offsets,
-        components,
-        values,
-        ids,
-        centroids,
-        order,
-        blocks,
-        sorted,
-        known,
-        taken,
-        counts,
-        starts,
-        slots,
-        weights,
-        scores,
-        keys,
-    ) {
-        Clustered::Refused(reason) => ListBlocks::Refused(reason),
-        Clustered::Blocks(count) => ListBlocks::Offsets(count + 1),
     }
 }
 
@@ -159,7 +100,7 @@ pub fn make(
             centroid_fraction: _,
             min_cluster_size,
             clustering_algorithm,
-        } => group(
+        } => list_groups::group(
             dimension,
             min_cluster_size,
             clustering_algorithm,

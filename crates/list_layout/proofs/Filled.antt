@@ -1,21 +1,21 @@
 -- What both passes leave in the output is the result, in front of each buffer. Assumes nothing.
-use Prim.Native.Nat.{ℕ, suc, _+_, _-_, _≤_, _<_, min}
+use Prim.Native.Nat.{ℕ, _+_, _≤_, min}
 use native.Mathlib.Omega.{arith}
 use mathlib.Core.Path.{_≡_, refl, sym, ap, _∙_}
-use mathlib.Core.Bool.{Bool, true, false, not, _&&_, _||_, cond, true≢false}
-use mathlib.Core.List.{List, [], _∷_, _++_, map, foldl}
+use mathlib.Core.Bool.{Bool, true, false, _||_, cond, true≢false}
+use mathlib.Core.List.{List, _++_, map, foldl}
 use lib.ListN.{length, take, drop, replicate, length-map, length-replicate}
 use lib.Seq.{sets, sets-eq, take-at, length-take-le}
 use lib.Dec.{leb, ltb, eqb}
 use lib.Ieee.{Float}
-use borrow.Author.Tests.{ltb-false, leb-true, not-false, le-ltb}
+use borrow.Author.Tests.{ltb-false, leb-true, not-false}
 use Rattle.refusal.specs.declared.Verdict.the-variants as verdict
-use Rattle.refusal.specs.First.{firstOf, Faultless, faultless, accepted-by}
+use Rattle.refusal.specs.First.{Faultless, faultless, accepted-by}
 use Rattle.configuration.specs.declared.SummarizationStrategy.{SummarizationStrategy}
 use Rattle.lists.specs.Lists.{between}
 use Rattle.documents.specs.Documents.{Documents}
 use Rattle.documents.specs.Laws.{both}
-use Rattle.layout.specs.Layouts.{entriesFrom, gathered, layout}
+use Rattle.layout.specs.Layouts.{entriesFrom, layout}
 use Rattle.layout.specs.Placing.{componentOf, movedBy}
 use Rattle.layout.specs.Counted.{scanFrom, startsFrom, total}
 use Rattle.layout.specs.Gathered.{starts-groups}
@@ -26,10 +26,12 @@ use Rattle.building.specs.Needs.{outputSuffices}
 use Rattle.building.specs.Building.{Outputs, outputs, outputLengths, filled, laid}
 use Rattle.block_documents.specs.Blocks.{topsOf, blocksHold, anyShort}
 use Rattle.block_counts.specs.Counting.{Counting, counting, countTests, countVerdict, countLeft, countsOf, minimumsOf, stepsOf}
-use Rattle.block_entries.specs.Filling.{filling, fillTests, fillVerdict, placedIn}
-use Rattle.list_layout.specs.Laid.{postingOf, tops, builtFrom, dimensionOutside, cutTo, laidTests, laidVerdict, Placeable, Places}
+use Rattle.block_entries.specs.Filling.{filling, fillTests, fillVerdict, fillLeft, placedIn}
+use Rattle.list_places.specs.Placed.{cursorsOf, filledBy, secondPass}
+use Rattle.list_places.specs.Settled.{writtenOf, over}
+use Rattle.list_layout.specs.Laid.{postingOf, tops, builtFrom, cutTo, laidTests, laidVerdict}
 use Rattle.list_sizes.specs.Sized.{within, measuredLeft}
-use Rattle.list_sizes.specs.Tallied.{counts-long, below, rare, tally, narrow, slight, component-count, start-count, entry-count, code-count, minimum-count, step-count}
+use Rattle.list_sizes.specs.Tallied.{counts-long, below, rare, tally, narrow, slight, component-count, entry-count, code-count}
 
 sets-front : {A : Type 0} (l out : List A) → length out ≤ length l → sets l 0 out ≡ laid out l
 sets-front l out h = sets-eq out l 0 (omega arith) ∙ ap (λ n. out ++ drop n l) (let w : 0 + length out ≡ length out = omega arith in w)
@@ -106,16 +108,10 @@ module _ (dimension : ℕ) (s : SummarizationStrategy) (d : Documents) (order bl
         steps = leb-true (length (y .steps)) (length (o .steps)) (h .1);
       }
 
-  -- the second pass finds what it asks
-  pub placeable : (k p c : List ℕ) (m : List Float) → length k ≡ length keys → length p ≡ length places → length m ≡ length maxima → length c ≡ length counts → Placeable dimension d order blocks k p m c (o .ids) (o .codes) (o .postings) (o .offsets)
+  -- the entries are accepted, wherever they go
+  placeable : (k p c : List ℕ) (m : List Float) → length k ≡ length keys → length p ≡ length places → length m ≡ length maxima → fillVerdict dimension d bs (filling k p m (lent c (o .ids) (o .codes))) ≡ verdict.Accepted
   unfolding fillVerdict
-  placeable k p c m hk hp hm hc =
-      record {
-        counted = let w = whole in omega arith;
-        accepted = accepted-by (fillTests dimension d bs (filling k p m (lent c (o .ids) (o .codes)))) (faults .1 .0, (faults .1 .1 .0, ((λ j. anyShort dimension (hk j) (hp j) (hm j)) ∙ short, tt)));
-        listed = roomy .postings;
-        blocked = roomy .offsets;
-      }
+  placeable k p c m hk hp hm = accepted-by (fillTests dimension d bs (filling k p m (lent c (o .ids) (o .codes)))) (faults .1 .0, (faults .1 .1 .0, ((λ j. anyShort dimension (hk j) (hp j) (hm j)) ∙ short, tt)))
 
   abbrev t : List ℕ
   t = foldl counted (blank dimension) (map componentOf (entriesFrom 0 (topsOf s d bs)))
@@ -149,9 +145,8 @@ module _ (dimension : ℕ) (s : SummarizationStrategy) (d : Documents) (order bl
       ∙ take-at (countsOf (tops s d order blocks) (take dimension counts)) (drop dimension counts) dimension
       (counts-long (map componentOf (entriesFrom 0 (tops s d order blocks))) (replicate (length (take dimension counts)) 0) ∙ length-replicate {A = ℕ} (length (take dimension counts)) 0 ∙ length-take-le dimension counts whole)
 
-  module _ (k' p' : List ℕ) (m' : List Float) (c postings' offsets' components' starts' ids' codes' : List ℕ) (low step : List Float)
-      (after : counting k' p' m' c low step ≡ measuredLeft dimension s d order blocks (counting keys places maxima counts (o .minimums) (o .steps)))
-      (left : Places dimension s d order blocks c (o .postings) (o .offsets) (o .components) (o .componentOffsets) (o .ids) (o .codes) postings' offsets' components' starts' ids' codes') where
+  module _ (k' p' : List ℕ) (m' : List Float) (c : List ℕ) (low step : List Float) (hk : length k' ≡ length keys) (hp : length p' ≡ length places) (hm : length m' ≡ length maxima)
+      (after : counting k' p' m' c low step ≡ measuredLeft dimension s d order blocks (counting keys places maxima counts (o .minimums) (o .steps))) where
     q : take dimension c ≡ countsOf (tops s d order blocks) (take dimension counts)
     q = front-counts c (ap (λ z. z .counts) (counted-is (counting k' p' m' c low step) after))
 
@@ -164,24 +159,25 @@ module _ (dimension : ℕ) (s : SummarizationStrategy) (d : Documents) (order bl
     counts-are : take dimension c ≡ t
     counts-are = q ∙ ap (λ n. foldl counted (replicate n 0) (map componentOf (entriesFrom 0 (topsOf s d bs)))) (length-take-le dimension counts whole)
 
-    components-are : components' ≡ laid (layout (topsOf s d bs) .components) (o .components)
+    components-are : laidComponents 0 0 (named (take dimension c)) (o .components) ≡ laid (layout (topsOf s d bs) .components) (o .components)
     components-are =
-        left .components-left ∙ ap (λ x. laidComponents 0 0 (named x) (o .components)) counts-are
+        ap (λ x. laidComponents 0 0 (named x) (o .components)) counts-are
         ∙ written-components (topsOf s d bs) dimension (below dimension s d bs hold few small) (rare dimension s d bs hold few small) (narrow dimension s d bs hold few small) (slight dimension s d bs hold few small) (o .components) (let e = component-count dimension s d bs hold few small in let r = roomy .components in omega arith)
         ∙ ap (λ n. layout (topsOf s d bs) .components ++ drop n (o .components)) (component-count dimension s d bs hold few small)
 
-    starts-are : starts' ≡ laid (layout (topsOf s d bs) .offsets) (o .componentOffsets)
+    starts-are : laidStarts 0 0 (named (take dimension c)) (o .componentOffsets) ≡ laid (layout (topsOf s d bs) .offsets) (o .componentOffsets)
     starts-are =
-        left .starts-left ∙ ap (λ x. laidStarts 0 0 (named x) (o .componentOffsets)) counts-are
+        ap (λ x. laidStarts 0 0 (named x) (o .componentOffsets)) counts-are
         ∙ written-offsets (topsOf s d bs) dimension (below dimension s d bs hold few small) (rare dimension s d bs hold few small) (narrow dimension s d bs hold few small) (slight dimension s d bs hold few small) (o .componentOffsets) (let e = starts-long in let r = roomy .starts in omega arith)
         ∙ ap (λ n. layout (topsOf s d bs) .offsets ++ drop n (o .componentOffsets)) starts-long
 
-    entries-are : placedIn (lent (scanned 0 0 (named (take dimension c)) (take dimension c)) (o .ids) (o .codes)) (topsOf s d bs) ≡ lent (movedBy (scanFrom 0 t) (entriesFrom 0 (topsOf s d bs))) (laid (layout (topsOf s d bs) .ids) (o .ids)) (laid (layout (topsOf s d bs) .codes) (o .codes))
+    entries-are : filledBy dimension s d order blocks (filling k' p' m' (lent (cursorsOf dimension c) (o .ids) (o .codes))) .entries ≡ lent (movedBy (scanFrom 0 t) (entriesFrom 0 (topsOf s d bs))) (laid (layout (topsOf s d bs) .ids) (o .ids)) (laid (layout (topsOf s d bs) .codes) (o .codes))
     entries-are =
-        ap (λ x. placedIn (lent (scanned 0 0 (named x) x) (o .ids) (o .codes)) (topsOf s d bs)) counts-are
+        ap (λ v. fillLeft v (topsOf s d bs) (filling k' p' m' (lent (cursorsOf dimension c) (o .ids) (o .codes))) .entries) (placeable k' p' (cursorsOf dimension c) m' hk hp hm)
+        ∙ ap (λ x. placedIn (lent (scanned 0 0 (named x) x) (o .ids) (o .codes)) (topsOf s d bs)) counts-are
         ∙ written-entries (topsOf s d bs) dimension (below dimension s d bs hold few small) (rare dimension s d bs hold few small) (narrow dimension s d bs hold few small) (slight dimension s d bs hold few small) (o .ids) (o .codes) (let e = total-is in let r = roomy .ids in omega arith) (let e = total-is in let f = code-count dimension s d bs hold few small in let r = roomy .codes in omega arith)
         ∙ (λ j. lent (movedBy (scanFrom 0 t) (entriesFrom 0 (topsOf s d bs))) (layout (topsOf s d bs) .ids ++ drop (total-is j) (o .ids)) (layout (topsOf s d bs) .codes ++ drop ((total-is ∙ sym (code-count dimension s d bs hold few small)) j) (o .codes)))
 
-    pub filled-is : outputs postings' offsets' components' starts' ids' codes' low step ≡ filled (builtFrom s d order blocks) o
+    pub filled-is : over (secondPass dimension s d order blocks k' p' m' c (writtenOf o)) (outputs (o .postings) (o .offsets) (o .components) (o .componentOffsets) (o .ids) (o .codes) low step) ≡ filled (builtFrom s d order blocks) o
     unfolding filled builtFrom layout
-    filled-is = λ j. outputs (left .postings-left j) (left .offsets-left j) (components-are j) (starts-are j) ((left .ids-left ∙ ap (λ l. l .ids) entries-are) j) ((left .codes-left ∙ ap (λ l. l .codes) entries-are) j) ((el ∙ sets-front (o .minimums) (minimumsOf (topsOf s d bs)) (roomy .minimums)) j) ((es ∙ sets-front (o .steps) (stepsOf (topsOf s d bs)) (roomy .steps)) j)
+    filled-is = λ j. outputs (sets-front (o .postings) (map (postingOf d) order) (let l = length-map order (postingOf d) in let r = roomy .postings in omega arith) j) (sets-front (o .offsets) blocks (roomy .offsets) j) (components-are j) (starts-are j) (entries-are j .ids) (entries-are j .codes) ((el ∙ sets-front (o .minimums) (minimumsOf (topsOf s d bs)) (roomy .minimums)) j) ((es ∙ sets-front (o .steps) (stepsOf (topsOf s d bs)) (roomy .steps)) j)

@@ -1,4 +1,2 @@
-pub mod Laws
-pub mod Placed
-pub mod Wrote
 pub mod Filled
+pub mod Wrote

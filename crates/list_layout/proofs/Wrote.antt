@@ -13,8 +13,14 @@ use Rattle.building.specs.declared.BuiltSizes.{BuiltSizes}
 use Rattle.building.specs.declared.BuildAnswer.{BuildAnswer}
 use Rattle.building.specs.declared.BuildAnswer.the-variants as answer
 use Rattle.building.specs.Built.{Built}
-use Rattle.building.specs.Building.{Outputs, outputs, zeros, floatZeros, clearedOutput, filled, answerBy}
-use Rattle.list_layout.specs.Laid.{left, outputBy, leftBy}
+use Rattle.building.specs.Building.{Outputs, outputs, outputLengths, zeros, floatZeros, clearedOutput, answerBy}
+use Rattle.configuration.specs.declared.SummarizationStrategy.{SummarizationStrategy}
+use Rattle.documents.specs.Documents.{Documents}
+use Rattle.block_counts.specs.Counting.{counting}
+use Rattle.list_sizes.specs.Sized.{Measures}
+use Rattle.list_places.specs.Settled.{settled}
+use Rattle.list_layout.specs.Laid.{builtFrom, laidVerdict, Left, left, outputBy, leftBy}
+use Rattle.list_layout.proofs.Filled.{filled-is}
 
 -- ---- the answer tells the verdict
 abbrev isBuilt : BuildAnswer → Bool
@@ -25,7 +31,7 @@ refused-by-answer : (v : Verdict) (b : Built) (r : Refusal) → answer.Refused r
 refused-by-answer verdict.Accepted b r e = absurd (true≢false (sym (ap isBuilt e)))
 refused-by-answer (verdict.Refused q) b r e = (q, refl)
 
-pub accepted-by-answer : (v : Verdict) (b : Built) (z : BuiltSizes) → answer.Built z ≡ answerBy v b → v ≡ verdict.Accepted
+accepted-by-answer : (v : Verdict) (b : Built) (z : BuiltSizes) → answer.Built z ≡ answerBy v b → v ≡ verdict.Accepted
 accepted-by-answer verdict.Accepted b z e = refl
 accepted-by-answer (verdict.Refused q) b z e = absurd (true≢false (ap isBuilt e))
 
@@ -36,21 +42,30 @@ same-zeros l k z e h = e ∙ ap (λ n. replicate n 0) h
 same-float-zeros : (l k z : List Float) → z ≡ floatZeros k → length k ≡ length l → z ≡ floatZeros l
 same-float-zeros l k z e h = e ∙ ap (λ n. replicate n (fin false 0 (pos 0))) h
 
--- ---- refused
-module _ (v : Verdict) (b : Built) (o o' : Outputs) (low step : List Float) (k p c k1 p1 c1 k' p' c' : List ℕ) (m m1 m' : List Float)
-    (ek : k' ≡ zeros k1) (hk : length k1 ≡ length k) (ep : p' ≡ zeros p1) (hp : length p1 ≡ length p) (em : m' ≡ floatZeros m1) (hm : length m1 ≡ length m) (ec : c' ≡ zeros c1) (hc : length c1 ≡ length c) (a : BuildAnswer) (e : a ≡ answerBy v b) where
-  pub wrote-refused : (r : Refusal) → a ≡ answer.Refused r → o' ≡ clearedOutput (outputs (o .postings) (o .offsets) (o .components) (o .componentOffsets) (o .ids) (o .codes) low step) → length low ≡ length (o .minimums) → length step ≡ length (o .steps)
-      → left (answer.Refused r) o' k' p' m' c' ≡ leftBy v b o k p m c
-  unfolding clearedOutput
-  wrote-refused r w eo hl hs =
-      let q = refused-by-answer v b r (sym w ∙ e) in
-      (λ j. left ((sym w ∙ e) j) ((eo ∙ cleared ∙ sym (ap (λ v. outputBy v b o) (q .1))) j) (same-zeros k k1 k' ek hk j) (same-zeros p p1 p' ep hp j) (same-float-zeros m m1 m' em hm j) (same-zeros c c1 c' ec hc j))
-    where
-      cleared : clearedOutput (outputs (o .postings) (o .offsets) (o .components) (o .componentOffsets) (o .ids) (o .codes) low step) ≡ clearedOutput o
-      cleared = λ j. outputs (zeros (o .postings)) (zeros (o .offsets)) (zeros (o .components)) (zeros (o .componentOffsets)) (zeros (o .ids)) (zeros (o .codes)) (same-float-zeros (o .minimums) low (floatZeros low) refl hl j) (same-float-zeros (o .steps) step (floatZeros step) refl hs j)
+-- ---- settled after the first pass, it is what the verdict says
+module _ (dimension : ℕ) (s : SummarizationStrategy) (d : Documents) (order blocks k p : List ℕ) (m : List Float) (c : List ℕ) (o : Outputs) (k1 p1 : List ℕ) (m1 : List Float) (c1 : List ℕ) (low step : List Float)
+    (hk : length k1 ≡ length k) (hp : length p1 ≡ length p) (hm : length m1 ≡ length m) (hc : length c1 ≡ length c) (hl : length low ≡ length (o .minimums)) (hs : length step ≡ length (o .steps)) (a : BuildAnswer)
+    (measured : Measures dimension s d order blocks (counting k p m c (o .minimums) (o .steps)) (outputLengths o) a (counting k1 p1 m1 c1 low step)) where
+  abbrev v : Verdict
+  v = laidVerdict dimension s d order blocks (counting k p m c (o .minimums) (o .steps)) (outputLengths o)
 
-  -- accepted: with the outputs as the passes leave them
-  pub wrote-built : (z : BuiltSizes) → a ≡ answer.Built z → (v ≡ verdict.Accepted → o' ≡ filled b o) → left (answer.Built z) o' k' p' m' c' ≡ leftBy v b o k p m c
-  wrote-built z w f =
-      let q = accepted-by-answer v b z (sym w ∙ e) in
-      (λ j. left ((sym w ∙ e) j) ((f q ∙ sym (ap (λ v. outputBy v b o) q)) j) (same-zeros k k1 k' ek hk j) (same-zeros p p1 p' ep hp j) (same-float-zeros m m1 m' em hm j) (same-zeros c c1 c' ec hc j))
+  abbrev b : Built
+  b = builtFrom s d order blocks
+
+  abbrev between-passes : Outputs
+  between-passes = outputs (o .postings) (o .offsets) (o .components) (o .componentOffsets) (o .ids) (o .codes) low step
+
+  cleared : clearedOutput between-passes ≡ clearedOutput o
+  unfolding clearedOutput
+  cleared = λ j. outputs (zeros (o .postings)) (zeros (o .offsets)) (zeros (o .components)) (zeros (o .componentOffsets)) (zeros (o .ids)) (zeros (o .codes)) (same-float-zeros (o .minimums) low (floatZeros low) refl hl j) (same-float-zeros (o .steps) step (floatZeros step) refl hs j)
+
+  ended : (a : BuildAnswer) → a ≡ answerBy v b → settled a dimension s d order blocks between-passes k1 p1 m1 c1 ≡ leftBy v b o k p m c
+  ended (answer.Refused r) e =
+      let q = refused-by-answer v b r e in
+      (λ j. left (e j) ((cleared ∙ sym (ap (λ v. outputBy v b o) (q .1))) j) (same-zeros k k1 (zeros k1) refl hk j) (same-zeros p p1 (zeros p1) refl hp j) (same-float-zeros m m1 (floatZeros m1) refl hm j) (same-zeros c c1 (zeros c1) refl hc j))
+  ended (answer.Built z) e =
+      let q = accepted-by-answer v b z e in
+      (λ j. left (e j) ((filled-is dimension s d order blocks k p m c o q k1 p1 m1 c1 low step hk hp hm (measured .left) ∙ sym (ap (λ v. outputBy v b o) q)) j) (same-zeros k k1 (zeros k1) refl hk j) (same-zeros p p1 (zeros p1) refl hp j) (same-float-zeros m m1 (floatZeros m1) refl hm j) (same-zeros c c1 (zeros c1) refl hc j))
+
+  pub wrote : (l : Left) → l ≡ settled a dimension s d order blocks between-passes k1 p1 m1 c1 → l ≡ leftBy v b o k p m c
+  wrote l e = e ∙ ended a (measured .answer)

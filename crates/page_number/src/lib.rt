@@ -36,7 +36,7 @@ fn first_from(offsets: &[u64], start: u64, count: usize) -> usize
 }
 
 // The smallest document whose start is the asked one, for any offsets whose first is 0 and that never fall: the last one, where no
-// document starts, may be any number. One pass to check the offsets, then a binary search.
+// document starts, need not be the number of terms. One pass to check the offsets, then a binary search.
 pub fn page_number(offsets: &[u64], start: RangeStart) -> PageNumber
     ensures { λ r. ⌜ r ≡ pageNumber (now (offsets .entry)) (start .0) ⌝ }
 {

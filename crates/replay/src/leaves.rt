@@ -1,4 +1,5 @@
 // Packing, blocking, quantizing and pushing, as recorded. Which word is which stands over each function.
+use crate::arrays;
 use blocking::BlockingAnswer;
 use names::RangeStart;
 use packing::PackedPosting;
@@ -10,7 +11,7 @@ use recorded::word;
 use recorded::words_of;
 
 // 1, 2: start; 3, 4: end; 5, 6: the packed number.
-pub fn packs(w: &[u32]) -> bool {
+pub(crate) fn packs(w: &[u32]) -> bool {
     match PackedPosting::pack(RangeStart(long(w, 1)), long(w, 3)) {
         PackingAnswer::Packed(p) => p.0 == long(w, 5),
         PackingAnswer::Refused(_) => false,
@@ -18,7 +19,7 @@ pub fn packs(w: &[u32]) -> bool {
 }
 
 // 1: ids; 2: block size; 3, 4: where the offsets start and end.
-pub fn blocks(w: &[u32]) -> bool {
+pub(crate) fn blocks(w: &[u32]) -> bool {
     let mut offsets = [7u64; 256];
     let wanted = words_of(w, 3);
     match blocking::fixed_size_blocking(word(w, 1) as u64, word(w, 2) as u64, &mut offsets) {
@@ -29,9 +30,8 @@ pub fn blocks(w: &[u32]) -> bool {
 }
 
 // 1: least; 2: step; 3, 4, 5: where the values and the codes start and end.
-pub fn quantizes(w: &[u32]) -> bool {
-    let mut floats = [0.0f32; 1024];
-    recorded::fill_floats(w, &mut floats);
+pub(crate) fn quantizes(w: &[u32]) -> bool {
+    let floats = arrays::all_floats(w);
     let mut codes = [9u8; 64];
     match quantizing::quantize(recorded::floats_of(w, 3, &floats), &mut codes) {
         Quantized::Summary { least, step } => {
@@ -45,11 +45,9 @@ pub fn quantizes(w: &[u32]) -> bool {
 
 // 1: k; 2: length; 3: the new packed number; 4: the new score; 5: the length afterwards; from 6 on where the slices start: packed
 // numbers, scores, and both afterwards.
-pub fn pushes(w: &[u32]) -> bool {
-    let mut packed = [0u64; 8];
-    let mut scores = [0.0f32; 8];
-    recorded::fill_longs(words_of(w, 6), &mut packed);
-    recorded::fill_floats(words_of(w, 7), &mut scores);
+pub(crate) fn pushes(w: &[u32]) -> bool {
+    let mut packed = arrays::longs(w, 6);
+    let mut scores = arrays::floats(w, 7);
     let mut length = word(w, 2) as u64;
     let number = merino::merino_push(
         word(w, 1) as u64,

@@ -72,16 +72,15 @@ fn read(fd: i32, n: usize, bytes: &mut [u8]) -> bool {
 }
 
 // The words of the next case; none where the file ends.
-pub fn next(fd: i32, words: &mut [u32]) -> usize {
-    let mut head = [0u8; 2];
-    if !read(fd, 2, &mut head) {
+pub(crate) fn next(fd: i32, words: &mut [u32]) -> usize {
+    let mut bytes = [0u8; 4096];
+    if !read(fd, 2, &mut bytes) {
         return 0;
     }
-    let n = (wide(head[0]) + 256 * wide(head[1])) as usize;
+    let n = (byte_at(&bytes, 0) + 256 * byte_at(&bytes, 1)) as usize;
     if n > 4096 {
         return 0;
     }
-    let mut bytes = [0u8; 4096];
     if !read(fd, n, &mut bytes) {
         return 0;
     }

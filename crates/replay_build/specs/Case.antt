@@ -1,18 +1,19 @@
 -- A recorded build: what it was given, and whether an answer is the recorded one. src/lib.rt says which word is which.
 use Prim.Native.Nat.{ℕ}
 use mathlib.Core.Bool.{Bool, false, _&&_}
-use mathlib.Core.List.{List, [], map}
+use mathlib.Core.List.{List, map}
 use lib.ListN.{length, getD, replicate}
 use lib.Dec.{eqb}
 use lib.Ieee.{Float}
 use Rattle.float32.specs.Key.{keyOf, valueOf}
 use Rattle.configuration.specs.declared.BlockingStrategy.{BlockingStrategy}
 use Rattle.configuration.specs.declared.SummarizationStrategy.{SummarizationStrategy}
-use Rattle.documents.specs.Documents.{Documents, documents}
+use Rattle.documents.specs.Documents.{documents}
 use Rattle.building.specs.declared.BuildAnswer.{BuildAnswer}
 use Rattle.building.specs.declared.BuildAnswer.the-variants.{Refused, Built}
 use Rattle.building.specs.Built.{Input, input}
-use Rattle.building.specs.Building.{Outputs, outputs, Scratches, scratches, Lent, lent, Left, builds}
+use Rattle.building.specs.Building.{Outputs, outputs}
+use Rattle.short_list.specs.Short.{Made, madeShort}
 use Rattle.build_numbers.specs.Chosen.{blockingOf, summarizationOf}
 use Rattle.recorded.specs.Words.{long, sliceAt, spread, itself}
 use Rattle.expected.specs.Held.{held}
@@ -38,11 +39,9 @@ inputIn w = input (getD w 1 0) (blockingIn w) (summarizationIn w) (documents (sl
 abbrev pub oddKey : ℕ
 oddKey = 3241148416
 
--- what is lent: room enough, and nowhere zero
-unfoldable pub used : Float → Lent
-used odd =
-    lent (outputs (replicate 64 5) (replicate 64 6) (replicate 32 7) (replicate 32 8) (replicate 256 9) (replicate 256 10) (replicate 64 odd) (replicate 64 odd))
-    (scratches (replicate 64 13) (replicate 64 14) (replicate 64 15) (replicate 64 16) (replicate 64 17) (replicate 64 18) (replicate 64 19) (replicate 512 20) (replicate 512 odd) (replicate 64 odd) (replicate 64 23))
+-- what is lent for the results: room enough, and nowhere zero
+unfoldable pub used : Float → Outputs
+used odd = outputs (replicate 64 5) (replicate 64 6) (replicate 32 7) (replicate 32 8) (replicate 256 9) (replicate 256 10) (replicate 64 odd) (replicate 64 odd)
 
 -- ---- what it must leave
 abbrev pub sizesHeld : List ℕ → BuildAnswer → Bool
@@ -56,22 +55,12 @@ numbersHeld w postings offsets components componentOffsets = held postings (slic
 abbrev pub entriesHeld : List ℕ → List ℕ → List ℕ → List Float → List Float → Bool
 entriesHeld w ids codes minimums steps = held ids (sliceAt w 25 w) 9 && held codes (sliceAt w 26 w) 10 && held (map keyOf minimums) (sliceAt w 27 w) oddKey && held (map keyOf steps) (sliceAt w 28 w) oddKey
 
-unfoldable pub resultsHeld : List ℕ → Outputs → Bool
-resultsHeld w o = numbersHeld w (o .postings) (o .offsets) (o .components) (o .componentOffsets) && entriesHeld w (o .ids) (o .codes) (o .minimums) (o .steps)
-
--- zero everywhere
-abbrev pub zero : List ℕ → Bool
-zero xs = held xs [] 0
-
-abbrev pub floatZero : List Float → Bool
-floatZero xs = held (map keyOf xs) [] 2147483648
-
-unfoldable pub cleared : Scratches → Bool
-cleared s = zero (s .order) && zero (s .blocks) && zero (s .sorted) && zero (s .known) && zero (s .taken) && zero (s .counts) && zero (s .starts) && zero (s .slots) && floatZero (s .weights) && floatZero (s .scores) && zero (s .keys)
-
-unfoldable pub agreed : List ℕ → Left → Bool
-agreed w l = sizesHeld w (l .answer) && resultsHeld w (l .lent .output) && cleared (l .lent .scratch)
+-- accepted, with both
+unfoldable pub agreed : List ℕ → Made → Bool
+agreed w m =
+    sizesHeld w (m .answer) && numbersHeld w (m .output .postings) (m .output .offsets) (m .output .components) (m .output .componentOffsets)
+    && entriesHeld w (m .output .ids) (m .output .codes) (m .output .minimums) (m .output .steps)
 
 -- whether a recorded build is what a build means
 unfoldable pub agrees : List ℕ → Bool
-agrees w = agreed w (builds (inputIn w) (used (valueOf oddKey)))
+agrees w = agreed w (madeShort (inputIn w) (used (valueOf oddKey)))

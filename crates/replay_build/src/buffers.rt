@@ -7,12 +7,12 @@ use expected::same_shorts;
 use expected::same_words;
 use recorded::words_of;
 ghost use mathlib.Core.Path.{_≡_};
-ghost use mathlib.Core.List.{[]};
-ghost use Rattle.building.specs.Building.{outputs, scratches};
-ghost use Rattle.replay_build.specs.Case.{sizesHeld, numbersHeld, entriesHeld, resultsHeld, cleared};
+ghost use Rattle.building.specs.Building.{outputs};
+ghost use Rattle.short_list.specs.Short.{made};
+ghost use Rattle.replay_build.specs.Case.{sizesHeld, numbersHeld, entriesHeld, agreed};
 
 // Whether the build was accepted, and as many numbers stand in front of the outputs as the original has.
-pub(crate) fn sizes(w: &[u32], answer: BuildAnswer) -> bool
+fn sizes(w: &[u32], answer: BuildAnswer) -> bool
     ensures { λ r. ⌜ r ≡ sizesHeld (now (w .entry)) answer ⌝ }
 {
     match answer {
@@ -51,51 +51,22 @@ fn entries(w: &[u32], ids: &[u16], codes: &[u8], minimums: &[f32], steps: &[f32]
         & same_floats(steps, words_of(w, 28), 0xc130_0000)
 }
 
-// Whether the outputs hold the original's results, and past them what they held before.
-pub(crate) fn results(
+// Whether the build was accepted, and the outputs hold the original's results and past them what they held before.
+pub(crate) fn agreed(
     w: &[u32],
-    postings: &[u64],
-    offsets: &[u64],
-    components: &[u32],
-    component_offsets: &[u64],
-    ids: &[u16],
-    codes: &[u8],
-    minimums: &[f32],
-    steps: &[f32],
+    answer: BuildAnswer,
+    postings: &[u64; 64],
+    offsets: &[u64; 64],
+    components: &[u32; 32],
+    component_offsets: &[u64; 32],
+    ids: &[u16; 256],
+    codes: &[u8; 256],
+    minimums: &[f32; 64],
+    steps: &[f32; 64],
 ) -> bool
-    ensures { λ r. ⌜ r ≡ resultsHeld (now (w .entry)) (outputs (now (postings .entry)) (now (offsets .entry)) (now (components .entry)) (now («component_offsets» .entry)) (now (ids .entry)) (now (codes .entry)) (now (minimums .entry)) (now (steps .entry))) ⌝ }
+    ensures { λ r. ⌜ r ≡ agreed (now (w .entry)) (made answer (outputs (now (postings .entry)) (now (offsets .entry)) (now (components .entry)) (now («component_offsets» .entry)) (now (ids .entry)) (now (codes .entry)) (now (minimums .entry)) (now (steps .entry)))) ⌝ }
 {
-    numbers(w, postings, offsets, components, component_offsets)
+    sizes(w, answer)
+        & numbers(w, postings, offsets, components, component_offsets)
         & entries(w, ids, codes, minimums, steps)
-}
-
-// Whether all scratch is 0.
-pub(crate) fn is_cleared(
-    none: &[u32],
-    order: &[u64],
-    blocks: &[u64],
-    sorted: &[u64],
-    known: &[u64],
-    taken: &[u64],
-    counts: &[u64],
-    starts: &[u64],
-    slots: &[u64],
-    weights: &[f32],
-    scores: &[f32],
-    keys: &[u64],
-) -> bool
-    requires { ⌜ now none ≡ [] ⌝ }
-    ensures { λ r. ⌜ r ≡ cleared (scratches (now (order .entry)) (now (blocks .entry)) (now (sorted .entry)) (now (known .entry)) (now (taken .entry)) (now (counts .entry)) (now (starts .entry)) (now (slots .entry)) (now (weights .entry)) (now (scores .entry)) (now (keys .entry))) ⌝ }
-{
-    same_longs(order, none, 0)
-        & same_longs(blocks, none, 0)
-        & same_longs(sorted, none, 0)
-        & same_longs(known, none, 0)
-        & same_longs(taken, none, 0)
-        & same_longs(counts, none, 0)
-        & same_longs(starts, none, 0)
-        & same_longs(slots, none, 0)
-        & same_floats(weights, none, 0x8000_0000)
-        & same_floats(scores, none, 0x8000_0000)
-        & same_longs(keys, none, 0)
 }

@@ -13,7 +13,7 @@ ghost use lib.ListN.{getD};
 ghost use Rattle.float32.specs.Key.{valueOf};
 ghost use Rattle.documents.specs.Documents.{documents};
 ghost use Rattle.building.specs.Built.{input};
-ghost use Rattle.building.specs.Building.{builds};
+ghost use Rattle.short_list.specs.Short.{madeShort};
 ghost use Rattle.recorded.specs.Words.{sliceAt};
 ghost use Rattle.replay_build.specs.Case.{blockingIn, summarizationIn, oddKey, used, agreed, agrees};
 
@@ -31,8 +31,8 @@ fn summarization_in(w: &[u32]) -> SummarizationStrategy
     build_numbers::summarization_of(long(w, 11), long(w, 13), float(w, 15))
 }
 
-// The build itself, in buffers that hold other numbers before: whether it is accepted, its results are the original's, past these
-// nothing changes, and all scratch is 0.
+// The build itself, in buffers that hold other numbers before: whether it is accepted, its results are the original's, and past these
+// nothing changes. That all scratch is 0 after a build is proved of posting_list::build, for all input.
 fn builds_with(
     w: &[u32],
     dimension: u64,
@@ -45,7 +45,7 @@ fn builds_with(
     ids: &[u64],
     centroids: &[u64],
 ) -> bool
-    ensures { λ r. ⌜ r ≡ agreed (now (w .entry)) (builds (input dimension blocking summarization (documents (now (offsets .entry)) (now (components .entry)) (now (values .entry))) (now (ids .entry)) (now (centroids .entry))) (used odd)) ⌝ }
+    ensures { λ r. ⌜ r ≡ agreed (now (w .entry)) (madeShort (input dimension blocking summarization (documents (now (offsets .entry)) (now (components .entry)) (now (values .entry))) (now (ids .entry)) (now (centroids .entry))) (used odd)) ⌝ }
 {
     let mut postings = [5u64; 64];
     let mut block_offsets = [6u64; 64];
@@ -55,18 +55,7 @@ fn builds_with(
     let mut codes = [10u8; 256];
     let mut minimums = [odd; 64];
     let mut steps = [odd; 64];
-    let mut order = [13u64; 64];
-    let mut blocks = [14u64; 64];
-    let mut sorted = [15u64; 64];
-    let mut known = [16u64; 64];
-    let mut taken = [17u64; 64];
-    let mut counts = [18u64; 64];
-    let mut starts = [19u64; 64];
-    let mut slots = [20u64; 512];
-    let mut weights = [odd; 512];
-    let mut scores = [odd; 64];
-    let mut keys = [23u64; 64];
-    let answer = posting_list::build(
+    let answer = short_list::build(
         dimension,
         blocking,
         summarization,
@@ -83,21 +72,10 @@ fn builds_with(
         &mut codes,
         &mut minimums,
         &mut steps,
-        &mut order,
-        &mut blocks,
-        &mut sorted,
-        &mut known,
-        &mut taken,
-        &mut counts,
-        &mut starts,
-        &mut slots,
-        &mut weights,
-        &mut scores,
-        &mut keys,
     );
-    let sizes = buffers::sizes(w, answer);
-    let results = buffers::results(
+    buffers::agreed(
         w,
+        answer,
         &postings,
         &block_offsets,
         &summary_components,
@@ -106,27 +84,12 @@ fn builds_with(
         &codes,
         &minimums,
         &steps,
-    );
-    let cleared = buffers::is_cleared(
-        &w[..0],
-        &order,
-        &blocks,
-        &sorted,
-        &known,
-        &taken,
-        &counts,
-        &starts,
-        &slots,
-        &weights,
-        &scores,
-        &keys,
-    );
-    sizes & results & cleared
+    )
 }
 
 // The build of the slices that stand in the words.
 fn builds_from(w: &[u32], longs: &[u64], floats: &[f32]) -> bool
-    ensures { λ r. ⌜ r ≡ agreed (now (w .entry)) (builds (input (getD (now (w .entry)) 1 0) (blockingIn (now (w .entry))) (summarizationIn (now (w .entry))) (documents (sliceAt (now (w .entry)) 16 (now (longs .entry))) (sliceAt (now (w .entry)) 17 (now (w .entry))) (sliceAt (now (w .entry)) 18 (now (floats .entry)))) (sliceAt (now (w .entry)) 19 (now (longs .entry))) (sliceAt (now (w .entry)) 20 (now (longs .entry)))) (used (valueOf oddKey))) ⌝ }
+    ensures { λ r. ⌜ r ≡ agreed (now (w .entry)) (madeShort (input (getD (now (w .entry)) 1 0) (blockingIn (now (w .entry))) (summarizationIn (now (w .entry))) (documents (sliceAt (now (w .entry)) 16 (now (longs .entry))) (sliceAt (now (w .entry)) 17 (now (w .entry))) (sliceAt (now (w .entry)) 18 (now (floats .entry)))) (sliceAt (now (w .entry)) 19 (now (longs .entry))) (sliceAt (now (w .entry)) 20 (now (longs .entry)))) (used (valueOf oddKey))) ⌝ }
 {
     builds_with(
         w,
@@ -142,7 +105,7 @@ fn builds_from(w: &[u32], longs: &[u64], floats: &[f32]) -> bool
     )
 }
 
-// Whether a recorded build is what a build means: accepted, with the original's results, nothing changed past them, and scratch 0.
+// Whether a recorded build is what a build means: accepted, with the original's results, and nothing changed past them.
 pub fn builds_agree(w: &[u32]) -> bool
     ensures { λ r. ⌜ r ≡ agrees (now (w .entry)) ⌝ }
 {

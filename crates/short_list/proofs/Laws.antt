@@ -1,4 +1,4 @@
--- The answer and the output of a build whose scratch has 64 places. Assumes nothing.
+-- The answer and the output of a build whose scratch is a short one. Assumes nothing.
 use mathlib.Core.Path.{_≡_, ap}
 use Rattle.building.specs.declared.BuildAnswer.{BuildAnswer}
 use Rattle.building.specs.Built.{Input}

@@ -1,4 +1,4 @@
--- What building a short list leaves: a build with 64 places in each scratch buffer.
+-- What building a short list leaves: a build with scratch for 64 documents, blocks and components, and for 512 terms of centroids.
 use Prim.Native.Nat.{ℕ}
 use mathlib.Core.Bool.{false}
 use mathlib.Core.List.{List}
@@ -12,11 +12,17 @@ use Rattle.building.specs.Building.{Outputs, Scratches, scratches, Left, lent, 
 abbrev pub places : List ℕ
 places = replicate 64 0
 
-abbrev pub floatPlaces : List Float
-floatPlaces = replicate 64 (ofBits binary32 0)
+abbrev pub termPlaces : List ℕ
+termPlaces = replicate 512 0
+
+abbrev pub termWeights : List Float
+termWeights = replicate 512 (ofBits binary32 0)
+
+abbrev pub scorePlaces : List Float
+scorePlaces = replicate 64 (ofBits binary32 0)
 
 abbrev pub shortScratch : Scratches
-shortScratch = scratches places places places places places places places places floatPlaces floatPlaces places
+shortScratch = scratches places places places places places places places termPlaces termWeights scorePlaces places
 
 -- the answer and the output
 pub record Made : Type 0 where

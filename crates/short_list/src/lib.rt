@@ -8,8 +8,8 @@ ghost use Rattle.building.specs.Built.{input};
 ghost use Rattle.building.specs.Building.{outputs};
 ghost use Rattle.short_list.specs.Short.{made, madeShort};
 
-// posting_list::build with 64 places in each scratch buffer, so that a list which needs more is refused with 4. The result stands in
-// front of the eight output buffers; refused, they are zero.
+// posting_list::build with 512 places for the terms of the centroids (slots and weights) and 64 in every other scratch buffer, so that a
+// list which needs more is refused with 4. The result stands in front of the eight output buffers; refused, they are zero.
 pub fn build(
     dimension: u64,
     blocking: BlockingStrategy,
@@ -39,8 +39,8 @@ pub fn build(
     let mut taken = [0u64; 64];
     let mut counts = [0u64; 64];
     let mut starts = [0u64; 64];
-    let mut slots = [0u64; 64];
-    let mut weights = [0.0f32; 64];
+    let mut slots = [0u64; 512];
+    let mut weights = [0.0f32; 512];
     let mut scores = [0.0f32; 64];
     let mut keys = [0u64; 64];
     posting_list::build(

@@ -1,26 +1,27 @@
 // A posting list of some pages, built and searched.
-use crate::pages::TERMS;
-use crate::pages::asked_of;
-use crate::pages::page_components;
-use crate::pages::page_offsets;
-use crate::pages::page_values;
-use crate::pages::weights_of;
-use crate::story::say_answer;
-use crate::story::say_found;
-use crate::story::say_left;
-use crate::story::say_turns;
+use crate::story::tell;
 use crate::text::say;
-use crate::text::say_number;
+use crate::text::say_with;
 use building::BuildAnswer;
 use building::BuiltSizes;
 use configuration::BlockingStrategy;
 use configuration::SummarizationStrategy;
-use refusal::Refusal;
 ghost use Prim.Native.Nat.{_≤_};
 
-fn say_refused(reason: Refusal) {
-    say_number(b"  the build is refused with ", reason.number());
-    say(b"\n");
+// Terms: 0 bay 4, 1 planned, 2 in progress, 3 completed, 4 bay 6, 5 beam, 6 panel, 7 stairs.
+const TERMS: u64 = 8;
+
+// A built list, in front of each array, and what the build answers.
+struct List {
+    answer: BuildAnswer,
+    postings: [u64; 9],
+    blocks: [u64; 4],
+    present: [u32; 8],
+    starts: [u64; 9],
+    entries: [u16; 24],
+    codes: [u8; 24],
+    minimums: [f32; 3],
+    steps: [f32; 3],
 }
 
 // As many as were built, and no more than there are.
@@ -31,10 +32,14 @@ fn built(count: u64, there: usize) -> usize
     if n <= there { n } else { there }
 }
 
-// A search of a list for the two best pages, told: what it answers, what it finds, its turns, and why every other page is not kept.
+// A search of a list for the two best pages, told.
 fn search_list(
-    bay: u64,
+    offsets: &[u64],
+    components: &[u32],
+    values: &[f32],
     ids: &[u64],
+    asked: &[u32],
+    weights: &[f32],
     factor: f32,
     postings: &[u64],
     blocks: &[u64],
@@ -51,17 +56,13 @@ fn search_list(
     let mut visits = [0u8; 28];
     let mut dots = [0.0f32; 3];
     let mut order = [0u64; 3];
-    let asked = asked_of(bay);
-    let weights = weights_of(bay);
-    let components = page_components();
-    let values = page_values();
     let answer = search::sort_and_search(
-        &asked,
-        &weights,
+        asked,
+        weights,
         2,
         factor,
-        &components,
-        &values,
+        components,
+        values,
         postings,
         blocks,
         present,
@@ -77,78 +78,77 @@ fn search_list(
         &mut dots,
         &mut order,
     );
-    if say_answer(answer) {
-        say_found(length, &packed, &scores);
-        say_turns(
-            bay,
-            factor,
-            postings,
-            blocks,
-            &dots,
-            &order,
-            minimums.len() as u64,
-        );
-        say_left(
-            bay,
-            factor,
-            ids,
-            postings,
-            blocks,
-            &dots,
-            &order,
-            minimums.len() as u64,
-            length,
-            &packed,
-        );
-    }
+    tell(
+        answer,
+        offsets,
+        components,
+        values,
+        ids,
+        asked,
+        weights,
+        factor,
+        postings,
+        blocks,
+        minimums.len() as u64,
+        length,
+        packed,
+        scores,
+        dots,
+        order,
+    );
 }
 
-// What was built, searched.
+// What was built, searched: the front of each array.
 fn search_built(
+    postings: [u64; 9],
+    blocks: [u64; 4],
+    present: [u32; 8],
+    starts: [u64; 9],
+    entries: [u16; 24],
+    codes: [u8; 24],
+    minimums: [f32; 3],
+    steps: [f32; 3],
     sizes: BuiltSizes,
-    bay: u64,
+    offsets: &[u64],
+    components: &[u32],
+    values: &[f32],
     ids: &[u64],
+    asked: &[u32],
+    weights: &[f32],
     factor: f32,
-    postings: &[u64],
-    blocks: &[u64],
-    present: &[u32],
-    starts: &[u64],
-    entries: &[u16],
-    codes: &[u8],
-    minimums: &[f32],
-    steps: &[f32],
 ) {
-    let p = built(sizes.postings, postings.len());
-    let b = built(sizes.offsets, blocks.len());
-    let c = built(sizes.components, present.len());
-    let s = built(
-        std::num::wrapping_add_u64(sizes.components, 1),
-        starts.len(),
-    );
-    let e = built(sizes.entries, entries.len());
-    let d = built(sizes.entries, codes.len());
-    let m = built(sizes.summaries, minimums.len());
-    let t = built(sizes.summaries, steps.len());
+    let p = built(sizes.postings, 9);
+    let b = built(sizes.offsets, 4);
+    let c = built(sizes.components, 8);
+    let e = built(sizes.entries, 24);
+    let m = built(sizes.summaries, 3);
     search_list(
-        bay,
+        offsets,
+        components,
+        values,
         ids,
+        asked,
+        weights,
         factor,
         &postings[..p],
         &blocks[..b],
         &present[..c],
-        &starts[..s],
+        &starts[..c + 1],
         &entries[..e],
-        &codes[..d],
+        &codes[..e],
         &minimums[..m],
-        &steps[..t],
+        &steps[..m],
     );
 }
 
-// Builds the list of these pages and searches it for what is planned in a bay.
-pub(crate) fn show(bay: u64, ids: &[u64], block_size: u64, factor: f32) {
-    let offsets = page_offsets();
-    let components = page_components();
-    let values = page_values();
+// The list of these pages, built.
+fn build_list(
+    offsets: &[u64],
+    components: &[u32],
+    values: &[f32],
+    ids: &[u64],
+    block_size: u64,
+) -> List {
     let mut postings = [0u64; 9];
     let mut blocks = [0u64; 4];
     let mut present = [0u32; 8];
@@ -163,9 +163,9 @@ pub(crate) fn show(bay: u64, ids: &[u64], block_size: u64, factor: f32) {
             block_size: block_size,
         },
         SummarizationStrategy::FixedSize { n_components: 3 },
-        &offsets,
-        &components,
-        &values,
+        offsets,
+        components,
+        values,
         ids,
         &[],
         &mut postings,
@@ -177,21 +177,65 @@ pub(crate) fn show(bay: u64, ids: &[u64], block_size: u64, factor: f32) {
         &mut minimums,
         &mut steps,
     );
+    List {
+        answer,
+        postings,
+        blocks,
+        present,
+        starts,
+        entries,
+        codes,
+        minimums,
+        steps,
+    }
+}
+
+// Builds the list of these pages and searches it for what is asked.
+pub(crate) fn show(
+    heading: &[u8],
+    offsets: &[u64],
+    components: &[u32],
+    values: &[f32],
+    ids: &[u64],
+    asked: &[u32],
+    weights: &[f32],
+    block_size: u64,
+    factor: f32,
+) {
+    say(heading);
+    let list = build_list(offsets, components, values, ids, block_size);
+    let answer = list.answer;
     match answer {
-        BuildAnswer::Refused(reason) => say_refused(reason),
-        BuildAnswer::Built(sizes) => search_built(
-            sizes,
-            bay,
-            ids,
-            factor,
-            &postings,
-            &blocks,
-            &present,
-            &starts,
-            &entries,
-            &codes,
-            &minimums,
-            &steps,
-        ),
+        BuildAnswer::Refused(reason) => {
+            say_with(b"  the build is refused with #\n", reason.number(), 0, 0, 0)
+        }
+        BuildAnswer::Built(sizes) => {
+            let postings = list.postings;
+            let blocks = list.blocks;
+            let present = list.present;
+            let starts = list.starts;
+            let entries = list.entries;
+            let codes = list.codes;
+            let minimums = list.minimums;
+            let steps = list.steps;
+            search_built(
+                postings,
+                blocks,
+                present,
+                starts,
+                entries,
+                codes,
+                minimums,
+                steps,
+                sizes,
+                offsets,
+                components,
+                values,
+                ids,
+                asked,
+                weights,
+                factor,
+            )
+        }
     }
 }

@@ -1,66 +1,57 @@
 // The story of one search: what it found, its turns, and why each page of the list that is not kept is not.
-use crate::pages::asked_of;
-use crate::pages::page_components;
-use crate::pages::page_offsets;
-use crate::pages::page_values;
-use crate::pages::weights_of;
 use crate::text::say;
-use crate::text::say_number;
 use crate::text::say_page;
-use crate::text::say_score;
+use crate::text::say_with;
 use packing::PackedPosting;
 use page_number::PageNumber;
 use probing::Answer;
 use reasons::Fate;
-use reasons::Turn;
 use reasons::TurnSeen;
-use refusal::Refusal;
-
-fn say_counts(kept: u64, evaluated: u64, skipped: u64) {
-    say_number(b"  the search answers: kept ", kept);
-    say_number(b", evaluated ", evaluated);
-    say_number(b", blocks skipped ", skipped);
-    say(b"\n");
-}
-
-fn say_stopped(reason: Refusal, position: u64) {
-    say_number(b"  the search stops with ", reason.number());
-    say_number(b" at posting ", position);
-    say(b"\n");
-}
-
-fn say_refused(reason: Refusal) {
-    say_number(b"  the search is refused with ", reason.number());
-    say(b"\n");
-}
 
 // What the search answers, and whether it came to its end.
-pub(crate) fn say_answer(answer: Answer) -> bool {
+fn say_answer(answer: Answer) -> bool {
     match answer {
         Answer::Found {
             kept,
             evaluated,
             skipped,
         } => {
-            say_counts(kept, evaluated, skipped);
+            say_with(
+                b"  the search answers: kept #, evaluated #, blocks skipped #\n",
+                kept,
+                evaluated,
+                skipped,
+                0,
+            );
             true
         }
         Answer::Stopped { reason, position } => {
-            say_stopped(reason, position);
+            say_with(
+                b"  the search stops with # at posting #\n",
+                reason.number(),
+                position,
+                0,
+                0,
+            );
             false
         }
         Answer::Refused(reason) => {
-            say_refused(reason);
+            say_with(
+                b"  the search is refused with #\n",
+                reason.number(),
+                0,
+                0,
+                0,
+            );
             false
         }
     }
 }
 
 // A kept range: its page number and its score.
-fn say_kept(posting: u64, score: f32) {
-    let offsets = page_offsets();
+fn say_kept(offsets: &[u64], posting: u64, score: f32) {
     let start = PackedPosting(posting).unpack().start;
-    if let PageNumber::Document(id) = page_number::page_number(&offsets, start) {
+    if let PageNumber::Document(id) = page_number::page_number(offsets, start) {
         say_page(id.0, score);
         say(b"\n");
     }
@@ -73,12 +64,13 @@ fn say_none(none: bool) {
 }
 
 // The kept list, best first.
-pub(crate) fn say_found(length: u64, packed: &[u64], scores: &[f32]) {
+fn say_found(offsets: &[u64], length: u64, packed: &[u64], scores: &[f32]) {
     say(b"  found, best first\n");
     say_none(length == 0);
     let mut i = 0u64;
     while i < length {
         say_kept(
+            offsets,
             held::offset_at(packed, i as usize),
             held::dot_at(scores, i as usize),
         );
@@ -86,86 +78,100 @@ pub(crate) fn say_found(length: u64, packed: &[u64], scores: &[f32]) {
     }
 }
 
-fn say_turn(at: u64, turn: Turn) {
-    say_number(b"    turn ", at);
-    let block = turn.block;
-    say_number(b"  block ", block.0);
-    say_score(b"  score ", turn.score);
-    if turn.full {
-        say_score(b"  bar ", turn.bar);
-    } else {
-        say(b"  no bar  ");
-    }
-    if turn.skipped {
-        say(b"  skipped\n");
-    } else {
-        say(b"  searched\n");
-    }
-}
-
-fn say_seen(at: u64, seen: TurnSeen) {
+// A turn that was taken, counted from 1.
+fn say_turn(before: u64, seen: TurnSeen) {
     if let TurnSeen::Taken(turn) = seen {
-        say_turn(std::num::wrapping_add_u64(at, 1), turn);
+        let at = std::num::wrapping_add_u64(before, 1);
+        let block = turn.block;
+        let score = float32::scaled_length(turn.score, 100);
+        let bar = float32::scaled_length(turn.bar, 100);
+        if turn.skipped {
+            say_with(
+                b"    turn #  block #  score %  bar %  skipped\n",
+                at,
+                block.0,
+                score,
+                bar,
+            );
+        } else if turn.full {
+            say_with(
+                b"    turn #  block #  score %  bar %  searched\n",
+                at,
+                block.0,
+                score,
+                bar,
+            );
+        } else {
+            say_with(
+                b"    turn #  block #  score %  no bar    searched\n",
+                at,
+                block.0,
+                score,
+                0,
+            );
+        }
     }
 }
 
 // The turns of the search: each block's score, and the bar that it had to reach, which there is once two pages are kept.
-pub(crate) fn say_turns(
-    bay: u64,
+fn say_turns(
+    components: &[u32],
+    values: &[f32],
+    asked: &[u32],
+    weights: &[f32],
     factor: f32,
     postings: &[u64],
     blocks: &[u64],
+    turns: u64,
     dots: &[f32],
     order: &[u64],
-    turns: u64,
 ) {
-    let asked = asked_of(bay);
-    let weights = weights_of(bay);
-    let components = page_components();
-    let values = page_values();
     say(b"  turns, the block of greatest score first\n");
     say_none(turns == 0);
     let mut t = 0u64;
     while t < turns {
         let seen = short_search::see_turn(
             t,
-            &asked,
-            &weights,
+            asked,
+            weights,
             2,
             factor,
-            &components,
-            &values,
+            components,
+            values,
             postings,
             blocks,
             dots,
             order,
         );
-        say_seen(t, seen);
+        say_turn(t, seen);
         t += 1;
     }
 }
 
-// A posting's own score: it alone is probed.
-fn score_of(bay: u64, posting: PackedPosting) -> f32 {
+// A posting's own score: it alone is probed. While nothing is kept no block is skipped, whatever its score.
+fn score_of(
+    components: &[u32],
+    values: &[f32],
+    asked: &[u32],
+    weights: &[f32],
+    posting: PackedPosting,
+) -> f32 {
     let mut length = 0u64;
     let mut packed = [0u64; 1];
     let mut scores = [0.0f32; 1];
     let mut visits = [0u8; 28];
-    let asked = asked_of(bay);
-    let weights = weights_of(bay);
-    let components = page_components();
-    let values = page_values();
+    let block: &[u64] = &[0, 1];
     probing::probe(
-        &asked,
-        &weights,
+        asked,
+        weights,
         1,
         0.0,
-        &components,
-        &values,
+        components,
+        values,
         &[posting.0],
-        &[0u64, 1],
-        &[],
-        &[],
+        block,
+        weights,
+        block,
         1,
         &mut length,
         &mut packed,
@@ -180,60 +186,31 @@ fn say_reason(fate: Fate) {
     match fate {
         Fate::Read => say(b"  evaluated, and not among the 2 best\n"),
         Fate::VisitedBefore => say(b"  its start was visited before: an empty page shares it\n"),
-        Fate::Skipped { score, bar } => {
-            say_score(b"  its block was skipped: block score ", score);
-            say_score(b", bar ", bar);
-            say(b"\n");
-        }
+        Fate::Skipped { score, bar } => say_with(
+            b"  its block was skipped: block score %, bar %\n",
+            float32::scaled_length(score, 100),
+            float32::scaled_length(bar, 100),
+            0,
+            0,
+        ),
         Fate::InNoBlock => say(b"  in no block\n"),
         Fate::NotReached => say(b"  not reached\n"),
     }
 }
 
-// A page that is not kept, and why.
-fn say_unkept(
-    i: usize,
-    id: u64,
-    posting: PackedPosting,
-    bay: u64,
-    factor: f32,
-    postings: &[u64],
-    blocks: &[u64],
-    dots: &[f32],
-    order: &[u64],
-    turns: u64,
-) {
-    let asked = asked_of(bay);
-    let weights = weights_of(bay);
-    let components = page_components();
-    let values = page_values();
-    say_page(id, score_of(bay, posting));
-    say_reason(short_search::fate_of(
-        i as u64,
-        turns,
-        &asked,
-        &weights,
-        2,
-        factor,
-        &components,
-        &values,
-        postings,
-        blocks,
-        dots,
-        order,
-    ));
-}
-
 // Every page of the list that is not kept, and why.
-pub(crate) fn say_left(
-    bay: u64,
-    factor: f32,
+fn say_left(
+    components: &[u32],
+    values: &[f32],
     ids: &[u64],
+    asked: &[u32],
+    weights: &[f32],
+    factor: f32,
     postings: &[u64],
     blocks: &[u64],
+    turns: u64,
     dots: &[f32],
     order: &[u64],
-    turns: u64,
     length: u64,
     packed: &[u64],
 ) {
@@ -244,21 +221,78 @@ pub(crate) fn say_left(
         let posting = PackedPosting(held::offset_at(postings, i));
         if !reasons::is_kept(posting, length, packed) {
             none = false;
-            let id = held::offset_at(ids, i);
-            say_unkept(
-                i,
-                id,
-                posting,
-                bay,
+            let score = score_of(components, values, asked, weights, posting);
+            say_page(held::offset_at(ids, i), score);
+            say_reason(short_search::fate_of(
+                i as u64,
+                turns,
+                asked,
+                weights,
+                2,
                 factor,
+                components,
+                values,
                 postings,
                 blocks,
                 dots,
                 order,
-                turns,
-            );
+            ));
         }
         i += 1;
     }
     say_none(none);
+}
+
+// What a search answers, what it finds, its turns, and why every other page is not kept.
+pub(crate) fn tell(
+    answer: Answer,
+    offsets: &[u64],
+    components: &[u32],
+    values: &[f32],
+    ids: &[u64],
+    asked: &[u32],
+    weights: &[f32],
+    factor: f32,
+    postings: &[u64],
+    blocks: &[u64],
+    turns: u64,
+    length: u64,
+    packed: [u64; 2],
+    scores: [f32; 2],
+    dots: [f32; 3],
+    order: [u64; 3],
+) {
+    let kept: &[u64] = &packed;
+    let block_scores: &[f32] = &dots;
+    let block_order: &[u64] = &order;
+    if say_answer(answer) {
+        say_found(offsets, length, kept, &scores);
+        say_turns(
+            components,
+            values,
+            asked,
+            weights,
+            factor,
+            postings,
+            blocks,
+            turns,
+            block_scores,
+            block_order,
+        );
+        say_left(
+            components,
+            values,
+            ids,
+            asked,
+            weights,
+            factor,
+            postings,
+            blocks,
+            turns,
+            block_scores,
+            block_order,
+            length,
+            kept,
+        );
+    }
 }

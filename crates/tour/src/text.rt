@@ -1,42 +1,70 @@
-// Plain text on standard output.
+// Text on standard output. In a text with numbers `#` stands for the next number, `_` for the next one in two places, and `%` for the next
+// one in hundredths.
 
 pub(crate) fn say(text: &[u8]) {
     io::write_all(1, text);
 }
 
-pub(crate) fn say_number(text: &[u8], n: u64) {
-    say(text);
+fn say_in_two_places(n: u64) {
+    if n < 10 {
+        say(b" ");
+    }
     io::print_decimal(1, n);
 }
 
-// A score to the hundredth below it.
-pub(crate) fn say_score(text: &[u8], x: f32) {
-    let hundredths = float32::scaled_length(x, 100);
-    say_number(text, hundredths / 100);
-    if hundredths % 100 < 10 {
-        say_number(b".0", hundredths % 100);
-    } else {
-        say_number(b".", hundredths % 100);
+fn say_hundredths(n: u64) {
+    io::print_decimal(1, n / 100);
+    say(b".");
+    let part = n % 100;
+    if part < 10 {
+        io::print_decimal(1, 0);
+    }
+    io::print_decimal(1, part);
+}
+
+// One byte of a text, or the number that it stands for; whether it stands for one.
+fn say_byte(byte: u8, n: u64) -> bool {
+    match byte {
+        b'#' => {
+            io::print_decimal(1, n);
+            true
+        }
+        b'_' => {
+            say_in_two_places(n);
+            true
+        }
+        b'%' => {
+            say_hundredths(n);
+            true
+        }
+        _ => {
+            say(&[byte]);
+            false
+        }
     }
 }
 
-// What a page says of its bay.
-fn say_state(id: u64) {
-    match id {
-        1 | 3 | 6 | 9 => say(b"  planned    "),
-        2 | 8 => say(b"  in progress"),
-        4 => say(b"  blank      "),
-        _ => say(b"  completed  "),
+// A text with at most four numbers.
+pub(crate) fn say_with(text: &[u8], a: u64, b: u64, c: u64, d: u64) {
+    let numbers = [a, b, c, d];
+    let mut next = 0usize;
+    let mut i = 0usize;
+    while i < text.len() {
+        let n = held::offset_at(&numbers, next);
+        if say_byte(text[i], n) {
+            next = std::num::wrapping_add_usize(next, 1);
+        }
+        i += 1;
     }
 }
 
-// A page by its number, what it says of its bay, and its score.
+// A page by its number, what it says of its bay, and its score to the hundredth below it.
 pub(crate) fn say_page(id: u64, score: f32) {
-    if id < 10 {
-        say_number(b"    page  ", id);
-    } else {
-        say_number(b"    page ", id);
+    let h = float32::scaled_length(score, 100);
+    match id {
+        1 | 3 | 6 | 9 => say_with(b"    page _  planned      score %", id, h, 0, 0),
+        2 | 8 => say_with(b"    page _  in progress  score %", id, h, 0, 0),
+        4 => say_with(b"    page _  blank        score %", id, h, 0, 0),
+        _ => say_with(b"    page _  completed    score %", id, h, 0, 0),
     }
-    say_state(id);
-    say_score(b"  score ", score);
 }

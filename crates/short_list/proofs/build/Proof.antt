@@ -1,4 +1,4 @@
--- `build` makes what `posting_list::build` makes with 64 places in each scratch buffer. Assumes nothing.
+-- `build` makes what `posting_list::build` makes with the short scratch. Assumes nothing.
 use borrow.Author.Needs.{needs}
 use Rattle.documents.specs.Documents.{documents}
 use Rattle.building.specs.Built.{input}

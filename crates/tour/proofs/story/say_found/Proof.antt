@@ -11,10 +11,10 @@ use Rattle.held.proofs.dot_at.Reads as dot-at-reads
 use Rattle.held.proofs.offset_at.Reads as offset-at-reads
 
 abbrev Inv-loop : tie.InvT-loop
-Inv-loop length packed scores i₀ i = Unit
+Inv-loop offsets length packed scores i₀ i = Unit
 
 abbrev μ-loop : tie.MeasureT-loop
-μ-loop length packed scores i₀ i = length - i
+μ-loop offsets length packed scores i₀ i = length - i
 
 slice-aggregate-say : tie.Need-slice-aggregate-say Inv-loop μ-loop
 slice-aggregate-say c = search needs

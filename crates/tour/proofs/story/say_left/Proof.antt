@@ -6,16 +6,19 @@ use Rattle.tour.proofs.story.say_left.Tie as tie
 use Rattle.tour.proofs.story.say_left.Reads as reads
 use Rattle.tour.proofs.story.say_left.Lts as lts
 use Rattle.reasons.proofs.is_kept.Reads as is-kept-reads
+use Rattle.short_search.proofs.fate_of.Reads as fate-of-reads
 use Rattle.tour.proofs.story.say_none.Reads as say-none-reads
-use Rattle.tour.proofs.story.say_unkept.Reads as say-unkept-reads
+use Rattle.tour.proofs.story.say_reason.Reads as say-reason-reads
+use Rattle.tour.proofs.story.score_of.Reads as score-of-reads
 use Rattle.tour.proofs.text.say.Reads as say-reads
+use Rattle.tour.proofs.text.say_page.Reads as say-page-reads
 use Rattle.held.proofs.offset_at.Reads as offset-at-reads
 
 abbrev Inv-loop : tie.InvT-loop
-Inv-loop bay factor ids postings blocks dots order turns length packed none₀ i₀ none i = Unit
+Inv-loop components values ids asked weights factor postings blocks turns dots order length packed none₀ i₀ none i = Unit
 
 abbrev μ-loop : tie.MeasureT-loop
-μ-loop bay factor ids postings blocks dots order turns length packed none₀ i₀ none i = len postings - i
+μ-loop components values ids asked weights factor postings blocks turns dots order length packed none₀ i₀ none i = len postings - i
 
 slice-aggregate-say : tie.Need-slice-aggregate-say Inv-loop μ-loop
 slice-aggregate-say c = search needs
@@ -32,11 +35,20 @@ offset-at-requires c κs = search needs
 is-kept-requires : tie.Need-is-kept-requires Inv-loop μ-loop
 is-kept-requires c κs = search needs
 
+score-of-requires : tie.Need-score-of-requires Inv-loop μ-loop
+score-of-requires c κs = search needs
+
 offset-at-requires-2 : tie.Need-offset-at-requires-2 Inv-loop μ-loop
 offset-at-requires-2 c κs = search needs
 
-say-unkept-requires : tie.Need-say-unkept-requires Inv-loop μ-loop
-say-unkept-requires c κs = search needs
+say-page-requires : tie.Need-say-page-requires Inv-loop μ-loop
+say-page-requires c κs = search needs
+
+fate-of-requires : tie.Need-fate-of-requires Inv-loop μ-loop
+fate-of-requires c κs = search needs
+
+say-reason-requires : tie.Need-say-reason-requires Inv-loop μ-loop
+say-reason-requires c κs = search needs
 
 add-i : tie.Need-add-i Inv-loop μ-loop
 add-i c = search needs
@@ -64,8 +76,11 @@ say-left-spec =
     loop-holds
     offset-at-requires
     is-kept-requires
+    score-of-requires
     offset-at-requires-2
-    say-unkept-requires
+    say-page-requires
+    fate-of-requires
+    say-reason-requires
     add-i
     loop-less
     loop-again

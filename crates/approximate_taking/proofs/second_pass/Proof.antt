@@ -1,0 +1,127 @@
+-- `approximate_taking::second_pass` meets its contract. Assumes nothing.
+use Rattle.documents.specs.Documents.{documents}
+use Rattle.passes.specs.Passes.{over, Over, over-start}
+use Rattle.slot_scores.specs.Met.{none}
+use Rattle.approximate_taking.specs.Taking.{againRank}
+use Rattle.approximate_taking.proofs.Laws.{taken-again, stayed, over-cut}
+use mathlib.Core.Path.{_≡_, refl, sym, ap, _∙_}
+use mathlib.Core.Logic.{⊎-elim}
+use Prim.Native.Nat.{_-_, _≤_}
+use native.Mathlib.Omega.{arith}
+use lib.ListN.{length, replicate, length-set}
+use borrow.Author.Needs.{needs, scaled-fits}
+use Rattle.approximate_taking.proofs.second_pass.Statement.{statement}
+use Rattle.approximate_taking.proofs.second_pass.Tie as tie
+
+abbrev Inv-loop : tie.InvT-loop
+Inv-loop offsets components values ids cut minimum first competing known counts starts slots weights scores₀ keys₀ taken₀ n i₀ scores keys taken i = (length scores ≡ length scores₀) × (length keys ≡ length keys₀) × (length taken ≡ length taken₀) × (i ≤ n) × Over (againRank known counts minimum cut (first .0) competing (documents starts slots weights) (length scores₀) (length keys₀) (documents offsets components values)) ids taken₀ i taken × (scores ≡ replicate (length scores₀) none)
+
+abbrev μ-loop : tie.MeasureT-loop
+μ-loop offsets components values ids cut minimum first competing known counts starts slots weights scores₀ keys₀ taken₀ n i₀ scores keys taken i = n - i
+
+clear-f32-requires : tie.Need-clear-f32-requires Inv-loop μ-loop
+clear-f32-requires c κs = search needs
+
+least-requires : tie.Need-least-requires Inv-loop μ-loop
+least-requires c κs = search needs
+
+loop-holds : tie.Need-loop-holds Inv-loop μ-loop
+loop-holds c = let a = c .before .before .before .before .before .before .before .before .before .before .before .before .before .before .before .before .before .before .args in let z = c .before .before .before .clear-f32 in (refl, refl, refl, omega arith, over-start (againRank (a .known .now) (a .counts .now) (a .minimum) (a .cut) (a .first .0) (a .competing .now) (documents (a .starts .now) (a .slots .now) (a .weights .now)) (length (z .last .0)) (length (a .keys .now)) (documents (a .offsets .now) (a .components .now) (a .values .now))) (a .ids .now) (a .taken .now), z .ensures ∙ ap (λ n. replicate n none) (sym (z .kept .0)))
+
+mul-is-small : tie.Need-mul-is-small Inv-loop μ-loop
+mul-is-small c = scaled-fits (c .before .loop .i) (length (c .before .before .before .before .before .before .before .before .before .before .before .before .before .before .before .before .before .before .before .before .args .ids .now)) 8 (omega (arith, c .loop-test .taken, c .before .before .least .ensures)) (c .before .before .before .before .before .before .before .before .before .before .before .before .before .before .before .before .before .before .before .before .good .1 .1 .1 .0 .1)
+
+slice-read-is-small : tie.Need-slice-read-is-small Inv-loop μ-loop
+slice-read-is-small c = omega (arith, c .before .loop-test .taken, c .before .before .before .least .ensures, c .before .before .loop .inv .2)
+
+is-small-requires : tie.Need-is-small-requires Inv-loop μ-loop
+is-small-requires c κs = search needs
+
+mul-t31 : tie.Need-mul-t31 Inv-loop μ-loop
+mul-t31 c = scaled-fits (c .before .before .before .before .loop .i) (length (c .before .before .before .before .before .before .before .before .before .before .before .before .before .before .before .before .before .before .before .before .before .before .before .args .ids .now)) 8 (omega (arith, c .before .before .before .loop-test .taken, c .before .before .before .before .before .least .ensures)) (c .before .before .before .before .before .before .before .before .before .before .before .before .before .before .before .before .before .before .before .before .before .before .before .good .1 .1 .1 .0 .1)
+
+shared-slice-read-t33 : tie.Need-shared-slice-read-t33 Inv-loop μ-loop
+shared-slice-read-t33 c = omega (arith, c .before .before .before .before .loop-test .taken, c .before .before .before .before .before .before .least .ensures)
+
+near-rank-requires : tie.Need-near-rank-requires Inv-loop μ-loop
+near-rank-requires c κs = let l = c .before .before .before .before .before .before .before .loop in l .inv .5 ∙ ap (λ n. replicate n none) (sym (l .inv .0))
+
+mul-taken : tie.Need-mul-taken Inv-loop μ-loop
+mul-taken c = scaled-fits (c .before .before .before .before .before .before .before .before .before .before .before .before .loop .i) (length (c .before .before .before .before .before .before .before .before .before .before .before .before .before .before .before .before .before .before .before .before .before .before .before .before .before .before .before .before .before .before .before .args .ids .now)) 8 (omega (arith, c .before .before .before .before .before .before .before .before .before .before .before .loop-test .taken, c .before .before .before .before .before .before .before .before .before .before .before .before .before .least .ensures)) (c .before .before .before .before .before .before .before .before .before .before .before .before .before .before .before .before .before .before .before .before .before .before .before .before .before .before .before .before .before .before .before .good .1 .1 .1 .0 .1)
+
+slice-write-taken : tie.Need-slice-write-taken Inv-loop μ-loop
+slice-write-taken c = omega (arith, c .before .before .before .before .before .before .before .before .before .before .before .loop-test .taken, c .before .before .before .before .before .before .before .before .before .before .before .before .before .least .ensures, c .before .before .before .before .before .before .before .before .before .before .before .before .loop .inv .2)
+
+add-i : tie.Need-add-i Inv-loop μ-loop
+add-i c = omega (arith, c .before .before .before .loop-test .taken, c .before .before .before .before .before .least .ensures, c .before .before .before .before .before .before .before .before .before .before .before .before .before .before .before .before .before .before .before .before .before .before .before .good .1 .1 .1 .0 .0)
+
+loop-less : tie.Need-loop-less Inv-loop μ-loop
+loop-less c = omega (arith, c .before .before .before .loop-test .taken)
+
+loop-again : tie.Need-loop-again Inv-loop μ-loop
+loop-again c = let l = c .before .before .before .before .loop in let a = c .before .before .before .before .before .before .before .before .before .before .before .before .before .before .before .before .before .before .before .before .before .before .before .args in let z = c .before .before .before .before .before .before .before .before .clear-f32 in let s = c .before .is-small in ⊎-elim
+    (λ w. let r = w .4 in (
+      ap length (w .9) ∙ r .kept .1 .1 .1 .1 .1 .1 .1 .1 .1 .1 .1 .0 ∙ l .inv .0,
+      ap length (w .10) ∙ r .kept .1 .1 .1 .1 .1 .1 .1 .1 .1 .1 .1 .1 .0 ∙ l .inv .1,
+      ap length (w .11) ∙ length-set (l .taken) (l .i) (r .result) ∙ l .inv .2,
+      omega (arith, c .before .before .before .loop-test .taken),
+      w .11 ∙ taken-again (a .known .now) (a .counts .now) (a .minimum) (a .cut) (a .first .0) (a .competing .now) (documents (a .starts .now) (a .slots .now) (a .weights .now)) (length (z .last .0)) (length (a .keys .now)) (documents (a .offsets .now) (a .components .now) (a .values .now)) (a .ids .now) (a .taken .now) (l .taken) (l .i)
+          (length (l .scores)) (length (l .keys)) (r .result) (s .result) (l .inv .4) (omega (arith, c .before .before .before .loop-test .taken, c .before .before .before .before .before .least .ensures)) (omega (arith, c .before .before .before .loop-test .taken, c .before .before .before .before .before .least .ensures)) (l .inv .0) (l .inv .1) (s .ensures) (w .0 .taken) (r .ensures .0),
+      w .9 ∙ r .ensures .1 ∙ ap (λ n. replicate n none) (l .inv .0),
+    ))
+    (λ w. (
+      ap length (w .1) ∙ l .inv .0,
+      ap length (w .2) ∙ l .inv .1,
+      ap length (w .3) ∙ l .inv .2,
+      omega (arith, c .before .before .before .loop-test .taken),
+      w .3 ∙ stayed (a .known .now) (a .counts .now) (a .minimum) (a .cut) (a .first .0) (a .competing .now) (documents (a .starts .now) (a .slots .now) (a .weights .now)) (length (z .last .0)) (length (a .keys .now)) (documents (a .offsets .now) (a .components .now) (a .values .now)) (a .ids .now) (a .taken .now) (l .taken) (l .i)
+          (s .result) (l .inv .4) (omega (arith, c .before .before .before .loop-test .taken, c .before .before .before .before .before .least .ensures)) (omega (arith, c .before .before .before .loop-test .taken, c .before .before .before .before .before .least .ensures)) (s .ensures) (w .0 .left),
+      w .1 ∙ l .inv .5,
+    ))
+    (c .if1 .came)
+
+clear-u64-requires : tie.Need-clear-u64-requires Inv-loop μ-loop
+clear-u64-requires c κs = search needs
+
+same-length : tie.Need-same-length Inv-loop μ-loop
+same-length c = c .before .before .before .before .before .loop .inv .0 ∙ c .before .before .before .before .before .before .before .before .before .clear-f32 .kept .0
+
+same-length-2 : tie.Need-same-length-2 Inv-loop μ-loop
+same-length-2 c = c .before .before .clear-u64 .kept .0 ∙ c .before .before .before .before .before .loop .inv .1
+
+same-length-3 : tie.Need-same-length-3 Inv-loop μ-loop
+same-length-3 c = c .before .before .before .before .before .loop .inv .2
+
+returns : tie.Need-returns Inv-loop μ-loop
+returns c = let l = c .before .before .before .before .before .loop in let a = c .before .before .before .before .before .before .before .before .before .before .before .before .before .before .before .before .before .before .before .before .before .before .before .before .args in let z = c .before .before .before .before .before .before .before .before .before .clear-f32 in (
+  over-cut (againRank (a .known .now) (a .counts .now) (a .minimum) (a .cut) (a .first .0) (a .competing .now) (documents (a .starts .now) (a .slots .now) (a .weights .now)) (length (z .last .0)) (length (a .keys .now)) (documents (a .offsets .now) (a .components .now) (a .values .now))) (a .ids .now) (a .taken .now) (l .taken) (l .i) (c .before .before .before .before .before .before .least .result) (l .inv .4) (c .before .before .before .before .before .before .least .ensures) (omega (arith, l .inv .3, c .before .before .before .before .loop-test .left))
+      ∙ ap (λ n. over (againRank (a .known .now) (a .counts .now) (a .minimum) (a .cut) (a .first .0) (a .competing .now) (documents (a .starts .now) (a .slots .now) (a .weights .now)) n (length (a .keys .now)) (documents (a .offsets .now) (a .components .now) (a .values .now))) (a .ids .now) (a .taken .now)) (z .kept .0),
+  l .inv .5 ∙ ap (λ n. replicate n none) (z .kept .0),
+  c .before .before .clear-u64 .ensures ∙ ap (λ n. replicate n 0) (l .inv .1),
+)
+
+pub second-pass-spec : {M : Type 1} → statement M
+second-pass-spec =
+    tie.close
+    (tie.spec
+    Inv-loop
+    μ-loop
+    clear-f32-requires
+    least-requires
+    loop-holds
+    mul-is-small
+    slice-read-is-small
+    is-small-requires
+    mul-t31
+    shared-slice-read-t33
+    near-rank-requires
+    mul-taken
+    slice-write-taken
+    add-i
+    loop-less
+    loop-again
+    clear-u64-requires
+    same-length
+    same-length-2
+    same-length-3
+    returns)
