@@ -10,10 +10,10 @@ ghost use Rattle.passes.specs.Ranked.{rankIn};
 ghost use Rattle.passes.specs.Passes.{over};
 ghost use Rattle.slot_scores.specs.Met.{none, Clear};
 ghost use Rattle.approximate_taking.specs.Taking.{nearlyChoice, againRank};
+use lists::shorter;
 use names::DocumentId;
 use ranking::is_small;
 use ranking::rank;
-use turns::least;
 
 // The rank of the centroid that takes a document by so many of its largest terms, of those that compete. The scores are all +0 before
 // and after.
@@ -76,7 +76,7 @@ pub fn first_pass(
         × (now (keys .exit) ≡ replicate (length (now (keys .entry))) 0) ⌝ }
 {
     clearing::clear_f32(scores);
-    let n = least(ids.len() as u64, taken.len());
+    let n = shorter(ids.len(), taken.len());
     let mut i = 0usize;
     while i < n {
         taken[i] = near_rank(
@@ -125,7 +125,7 @@ pub fn second_pass(
         × (now (keys .exit) ≡ replicate (length (now (keys .entry))) 0) ⌝ }
 {
     clearing::clear_f32(scores);
-    let end = least(ids.len() as u64, taken.len());
+    let end = shorter(ids.len(), taken.len());
     let mut i = 0usize;
     while i < end {
         if is_small(counts, minimum, taken[i]) {

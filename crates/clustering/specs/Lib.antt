@@ -1,3 +1,4 @@
 pub mod Answers
 pub mod Given
+pub mod Modes
 pub mod Ready

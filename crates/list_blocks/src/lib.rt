@@ -1,4 +1,6 @@
 // The blocks of a posting list that is to be built, made in lent scratch: by a fixed size, or by clusters around given centroids.
+mod groups;
+
 use blocking::BlockingAnswer;
 use configuration::BlockingStrategy;
 use list_ready::ListBlocks;
@@ -100,7 +102,7 @@ pub fn make(
             centroid_fraction: _,
             min_cluster_size,
             clustering_algorithm,
-        } => list_groups::group(
+        } => groups::group(
             dimension,
             min_cluster_size,
             clustering_algorithm,

@@ -1,8 +1,10 @@
 // Quantizing: the values of a summary as one byte each, between their least and their greatest, and the values that the bytes stand for.
+use float32::higher;
+use float32::lower;
 use refusal::Refusal;
 ghost use mathlib.Core.Path.{_≡_};
 ghost use mathlib.Core.List.{_++_, map};
-ghost use Prim.Native.Nat.{_≤_, min, max};
+ghost use Prim.Native.Nat.{_≤_};
 ghost use lib.ListN.{length, drop};
 ghost use Rattle.quantizing.specs.Quantizing.{extentOf, stepOf, codeOf, readBack, left, quantized, stepAllowed};
 
@@ -16,18 +18,6 @@ pub enum Quantized {
 pub struct Extent {
     pub least: f32,
     pub greatest: f32,
-}
-
-fn lower(a: u32, b: u32) -> u32
-    ensures { λ r. ⌜ r ≡ min a b ⌝ }
-{
-    if a < b { a } else { b }
-}
-
-fn higher(a: u32, b: u32) -> u32
-    ensures { λ r. ⌜ r ≡ max a b ⌝ }
-{
-    if a < b { b } else { a }
 }
 
 // The least and the greatest of the values, in one pass; a NaN each where there is no value.

@@ -1,17 +1,19 @@
 -- The steps of telling what became of a posting, over plain numbers and lists. Assumes nothing.
-use Prim.Native.Nat.{ℕ}
+use Prim.Native.Nat.{ℕ, _+_, min}
+use native.Mathlib.Omega.{arith}
 use mathlib.Core.Path.{_≡_, refl, sym, ap, _∙_}
 use mathlib.Core.Bool.{Bool, true, false, not, cond}
 use mathlib.Core.List.{List, [], _∷_}
-use lib.ListN.{length, getD}
-use lib.Dec.{eqb}
+use lib.ListN.{length, getD, take}
+use lib.Seq.{take-all}
+use lib.Dec.{eqb, leb}
 use lib.Ieee.{Float}
-use borrow.Author.Tests.{eq-eqb, ne-eqb}
+use borrow.Author.Tests.{eq-eqb, ne-eqb, leb-true, leb-false}
 use Rattle.packing.specs.declared.UnpackedRange.{UnpackedRange}
 use Rattle.packing.specs.Packing.{unpacked}
 use Rattle.probing.specs.declared.Answer.{Answer}
 use Rattle.probing.specs.declared.Answer.the-variants.{Found}
-use Rattle.probing.specs.Probed.{Terms, Lends, Left, listed, probed}
+use Rattle.probing.specs.Probed.{Terms, Lends, Left, bytesOf, listed, probed}
 use Rattle.reasons.specs.declared.Turn.{Turn}
 use Rattle.reasons.specs.declared.TurnSeen.{TurnSeen}
 use Rattle.reasons.specs.declared.TurnSeen.the-variants.{Taken}
@@ -29,11 +31,21 @@ fate-reached a p visits u v w ha hu hv hw =
 pub probed-is : (os : List ℕ) (turn : TurnSeen) (t : Turn) (n : ℕ) → turn ≡ Taken t → n ≡ getD os (t .block .0) 0 → probedOf n (t .score) ≡ probedBlock os turn
 probed-is os turn t n h hn = ap (λ z. probedOf z (t .score)) hn ∙ ap (probedBlock os) (sym h)
 
+-- as many as there are of the first m are the first m
+first-of : (xs : List ℕ) (m n : ℕ) → n ≡ min (length xs) m → take n xs ≡ take m xs
+first-of xs m n h = go (leb m (length xs)) refl
+  where
+    go : (b : Bool) → leb m (length xs) ≡ b → take n xs ≡ take m xs
+    go true e = let l = leb-true m (length xs) e in ap (λ i. take i xs) (let z : n ≡ m = omega arith in z)
+    go false e = let l = leb-false m (length xs) e in take-all n xs (omega arith) ∙ sym (take-all m xs (omega arith))
+
 pub fated-in : (k : ℕ) (f : Float) (t : Terms) (ps : List ℕ) (first : ℕ) (score : Float) (i : ℕ) (l : Lends) (r : Left) (p : ℕ) (g : Fate)
-    → r ≡ probed k f t ps (first ∷ i ∷ []) (score ∷ []) (listed [] 1) l → p ≡ getD ps i 0 → g ≡ reachedFate (r .answer) p (r .lent .visits)
-    → fated g (r .lent) ≡ fatedIn k f t ps first score i l
+    → r ≡ probed k f t ps (first ∷ i ∷ []) (score ∷ []) (listed [] 1) l → p ≡ getD ps i 0 → (n : ℕ) → n ≡ min (length (r .lent .visits)) (length (t .components) + 1)
+    → g ≡ reachedFate (r .answer) p (take n (r .lent .visits)) → fated g (r .lent) ≡ fatedIn k f t ps first score i l
 unfolding fatedIn fatedThen
-fated-in k f t ps first score i l r p g hr hp hg = ap (λ z. fated z (r .lent)) (hg ∙ ap (λ z. reachedFate (r .answer) z (r .lent .visits)) hp) ∙ ap (fatedThen ps i) hr
+fated-in k f t ps first score i l r p g hr hp n hn hg =
+    ap (λ z. fated z (r .lent)) (hg ∙ ap (reachedFate (r .answer) p) (first-of (r .lent .visits) (length (t .components) + 1) n hn) ∙ ap (λ z. reachedFate (r .answer) z (bytesOf t (r .lent .visits))) hp)
+    ∙ ap (fatedThen t ps i) hr
 
 module _ (k : ℕ) (f : Float) (t : Terms) (ps os : List ℕ) (dots : List Float) (order : List ℕ) (turns i : ℕ) (l : Lends) (at : ℕ) (ha : at ≡ turnOf os (length ps) order turns i) where
   pub fate-none : at ≡ turns → fated InNoBlock l ≡ fateOf k f t ps os dots order turns i l

@@ -10,7 +10,7 @@ use Rattle.packing.specs.Packing.{startOf}
 use Rattle.probing.specs.declared.Answer.{Answer}
 use Rattle.probing.specs.declared.Answer.the-variants.{Refused, Stopped, Found}
 use Rattle.probing.specs.Probing.{visited}
-use Rattle.probing.specs.Probed.{Terms, Lends, Left, listed, probed}
+use Rattle.probing.specs.Probed.{Terms, Lends, Left, bytesOf, listed, probed}
 use Rattle.reasons.specs.declared.Turn.{Turn}
 use Rattle.reasons.specs.declared.TurnSeen.{TurnSeen}
 use Rattle.reasons.specs.declared.TurnSeen.the-variants.{NotTaken, Taken}
@@ -41,12 +41,13 @@ pub record Fated : Type 0 where
 abbrev pub fated : Fate → Lends → Fated
 fated f l = record { fate = f; lent = l }
 
-unfoldable pub fatedThen : List ℕ → ℕ → Left → Fated
-fatedThen ps i r = fated (reachedFate (r .answer) (getD ps i 0) (r .lent .visits)) (r .lent)
+-- visited in the bytes that a search looks at: those past the term count do not matter
+unfoldable pub fatedThen : Terms → List ℕ → ℕ → Left → Fated
+fatedThen t ps i r = fated (reachedFate (r .answer) (getD ps i 0) (bytesOf t (r .lent .visits))) (r .lent)
 
 -- the postings of its block before it have been probed
 unfoldable pub fatedIn : ℕ → Float → Terms → List ℕ → ℕ → Float → ℕ → Lends → Fated
-fatedIn k factor t ps first score i l = fatedThen ps i (probed k factor t ps (first ∷ i ∷ []) (score ∷ []) (listed [] 1) l)
+fatedIn k factor t ps first score i l = fatedThen t ps i (probed k factor t ps (first ∷ i ∷ []) (score ∷ []) (listed [] 1) l)
 
 -- ---- at its block's turn: the block is searched, or it is skipped, or nothing is taken any more
 abbrev pub searched : TurnSeen → Bool

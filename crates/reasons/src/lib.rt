@@ -1,6 +1,7 @@
 // Why a posting of a list is kept or not, told from what a search left for inspection: the blocks' scores and the order of their turns.
 // The turns before a moment are taken again, from the kept list and the visit bytes that the search began with; so what is held at that
 // moment is the search's own.
+use lists::shorter;
 use names::BlockNumber;
 use packing::PackedPosting;
 use probing::Answer;
@@ -174,7 +175,8 @@ fn reached_fate(answer: Answer, posting: PackedPosting, visits: &[u8]) -> Fate
     }
 }
 
-// What becomes of a posting at the turn of its block, which is not skipped: the postings of the block before it are probed first.
+// What becomes of a posting at the turn of its block, which is not skipped: the postings of the block before it are probed first. A search
+// looks only at the visit bytes of the starts 0 to the term count.
 fn probe_to(
     first: u64,
     position: u64,
@@ -215,7 +217,9 @@ fn probe_to(
         visits,
     );
     let posting = held::offset_at(postings, position as usize);
-    reached_fate(answer, PackedPosting(posting), visits)
+    let bytes = components.len() + 1;
+    let n = shorter(visits.len(), bytes);
+    reached_fate(answer, PackedPosting(posting), &visits[..n])
 }
 
 // Whether a block is searched at its turn.

@@ -1,20 +1,23 @@
 // Replays a sample of the original's answers against the proved functions. The sample is the file `cases`; docs/DIFFERENCES.md says how
 // it was made. A case is a row of words; the first one says of what kind it is, and 8 more than that that its answer is damaged: such a
 // one must differ, so that a judge which always agrees is seen.
-mod arrays;
-mod leaves;
+mod builds;
 mod record;
-mod searching;
+
+ghost use mathlib.Core.Path.{_≡_};
+ghost use Rattle.replay.specs.Kinds.{agreesBy};
 
 // Whether the proved function's answer is the recorded one.
-fn agrees(kind: u32, words: &[u32]) -> bool {
+fn agrees(kind: u32, words: &[u32]) -> bool
+    ensures { λ r. ⌜ r ≡ agreesBy kind (now (words .entry)) ⌝ }
+{
     match kind {
-        1 => leaves::packs(words),
-        2 => leaves::blocks(words),
-        3 => leaves::quantizes(words),
-        4 => leaves::pushes(words),
-        5 => searching::searches(words),
-        6 => replay_build::builds_agree(words),
+        1 => replay_leaves::packs_agree(words),
+        2 => replay_leaves::blocks_agree(words),
+        3 => replay_leaves::quantizes_agree(words),
+        4 => replay_leaves::pushes_agree(words),
+        5 => replay_search::searches_agree(words),
+        6 => builds::builds_agree(words),
         _ => false,
     }
 }

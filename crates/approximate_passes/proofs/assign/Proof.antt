@@ -13,11 +13,11 @@ use borrow.Author.Needs.{needs}
 use Rattle.approximate_passes.proofs.assign.Statement.{statement}
 use Rattle.approximate_passes.proofs.assign.Tie as tie
 
-least-requires : tie.Need-least-requires
-least-requires c κs = search needs
+shorter-requires : tie.Need-shorter-requires
+shorter-requires c κs = search needs
 
 slice-aggregate-all : tie.Need-slice-aggregate-all
-slice-aggregate-all c = sym (length-take-le (c .before .least .result) (c .before .before .before .before .before .before .before .before .before .before .before .before .before .before .before .before .args .centroids .now) (omega (arith, c .before .least .ensures)))
+slice-aggregate-all c = sym (length-take-le (c .before .shorter .result) (c .before .before .before .before .before .before .before .before .before .before .before .before .before .before .before .before .args .centroids .now) (omega (arith, c .before .shorter .ensures)))
 
 fill-requires : tie.Need-fill-requires
 fill-requires c κs = search needs
@@ -31,20 +31,20 @@ first-pass-requires c κs = search needs
 clear-u64-requires : tie.Need-clear-u64-requires
 clear-u64-requires c κs = search needs
 
-least-requires-2 : tie.Need-least-requires-2
-least-requires-2 c κs = search needs
+shorter-requires-2 : tie.Need-shorter-requires-2
+shorter-requires-2 c κs = search needs
 
 slice-reshare-prefix-count : tie.Need-slice-reshare-prefix-count
-slice-reshare-prefix-count c = omega (arith, c .least2 .ensures)
+slice-reshare-prefix-count c = omega (arith, c .shorter2 .ensures)
 
 slice-aggregate-count : tie.Need-slice-aggregate-count
-slice-aggregate-count c = sym (length-take-le (c .before .least2 .result) (c .before .before .before .before .before .before .before .before .before .before .before .before .first-pass .last .1 .1 .1 .1 .1 .1 .1 .1 .1 .1 .1 .1 .1 .0) (omega (arith, c .before .least2 .ensures)))
+slice-aggregate-count c = sym (length-take-le (c .before .shorter2 .result) (c .before .before .before .before .before .before .before .before .before .before .before .before .first-pass .last .1 .1 .1 .1 .1 .1 .1 .1 .1 .1 .1 .1 .1 .0) (omega (arith, c .before .shorter2 .ensures)))
 
 count-requires : tie.Need-count-requires
 count-requires c κs = search needs
 
 assign-again-requires : tie.Need-assign-again-requires
-assign-again-requires c κs = let a = c .before .before .before .before .before .before .before .before .before .before .before .before .before .before .before .before .before .before .before .before .before .before .before .before .before .before .before .before .before .before .before .before .before .before .before .before .before .before .before .before .before .before .before .before .before .before .before .before .before .before .before .before .before .before .before .before .before .before .args in cut-fits (a .centroids .now) (a .competing .now) (c .before .before .before .before .before .before .before .before .before .before .before .before .before .before .before .before .before .before .before .before .before .before .before .before .before .before .before .before .before .before .before .before .before .before .before .before .before .before .before .before .before .before .before .least .result) (c .before .before .before .before .before .before .before .before .before .before .before .before .before .before .before .before .before .before .before .before .before .before .before .before .before .before .before .before .before .before .before .before .before .before .before .before .before .before .before .before .before .before .before .least .ensures)
+assign-again-requires c κs = let a = c .before .before .before .before .before .before .before .before .before .before .before .before .before .before .before .before .before .before .before .before .before .before .before .before .before .before .before .before .before .before .before .before .before .before .before .before .before .before .before .before .before .before .before .before .before .before .before .before .before .before .before .before .before .before .before .before .before .before .args in cut-fits (a .centroids .now) (a .competing .now) (c .before .before .before .before .before .before .before .before .before .before .before .before .before .before .before .before .before .before .before .before .before .before .before .before .before .before .before .before .before .before .before .before .before .before .before .before .before .before .before .before .before .before .before .shorter .result) (c .before .before .before .before .before .before .before .before .before .before .before .before .before .before .before .before .before .before .before .before .before .before .before .before .before .before .before .before .before .before .before .before .before .before .before .before .before .before .before .before .before .before .before .shorter .ensures)
 
 same-length : tie.Need-same-length
 same-length c = c .before .before .before .before .before .before .before .before .before .before .before .before .before .before .before .before .assign-again .kept .1 .1 .1 .1 .1 .1 .1 .1 .0
@@ -71,7 +71,7 @@ same-length-8 : tie.Need-same-length-8
 same-length-8 c = c .before .before .before .before .before .before .before .before .before .before .before .before .before .before .before .before .assign-again .kept .1 .1 .1 .1 .1 .1 .1 .1 .1 .1 .1 .1 .1 .1 .1 .0 ∙ c .before .before .before .before .before .before .before .before .before .before .before .before .before .before .before .before .before .before .before .before .before .before .before .before .before .before .before .before .before .before .before .before .before .before .before .before .before .before .before .before .before .first-pass .kept .1 .1 .1 .1 .1 .1 .1 .1 .1 .1 .1 .1 .1 .0
 
 returns : tie.Need-returns
-returns c = let a = c .before .before .before .before .before .before .before .before .before .before .before .before .before .before .before .before .before .before .before .before .before .before .before .before .before .before .before .before .before .before .before .before .before .before .before .before .before .before .before .before .before .before .before .before .before .before .before .before .before .before .before .before .before .before .before .before .before .before .before .before .before .before .before .before .before .before .before .before .before .before .before .before .before .before .before .args in let m = c .before .before .before .before .before .before .before .before .before .before .before .before .before .before .before .before .before .before .before .before .before .before .before .before .before .before .before .before .before .before .before .before .before .before .before .before .before .before .before .before .before .before .before .before .before .before .before .before .before .before .before .before .before .before .before .before .before .before .before .before .least in let f = c .before .before .before .before .before .before .before .before .before .before .before .before .before .before .before .before .before .before .before .before .before .before .before .before .before .before .before .before .before .before .before .before .before .before .before .before .before .before .before .before .before .before .before .before .before .before .before .before .before .before .before .before .before .before .before .fill in let o = c .before .before .before .before .before .before .before .before .before .before .before .before .before .before .before .before .before .before .before .before .before .before .before .before .before .before .before .before .before .before .before .before .before .before .before .before .before .before .before .before .before .before .before .before .before .before .before .before .first-of in let p = c .before .before .before .before .before .before .before .before .before .before .before .before .before .before .before .before .before .before .before .before .before .before .before .before .before .before .before .before .before .before .before .before .before .before .before .before .before .before .before .before .before .first-pass in let z = c .before .before .before .before .before .before .before .before .before .before .before .before .before .before .before .before .before .before .before .before .before .before .before .before .before .before .before .before .before .before .before .before .before .clear-u64 in let n = c .before .before .before .before .before .before .before .before .before .before .before .before .before .before .before .before .before .before .before .before .before .before .before .before .before .before .before .before .before .before .least2 in let k = c .before .before .before .before .before .before .before .before .before .before .before .before .before .before .before .before .before .before .before .before .before .before .before .before .before .before .before .count in let g = c .before .before .before .before .before .before .before .before .before .before .before .before .before .before .before .before .assign-again in
+returns c = let a = c .before .before .before .before .before .before .before .before .before .before .before .before .before .before .before .before .before .before .before .before .before .before .before .before .before .before .before .before .before .before .before .before .before .before .before .before .before .before .before .before .before .before .before .before .before .before .before .before .before .before .before .before .before .before .before .before .before .before .before .before .before .before .before .before .before .before .before .before .before .before .before .before .before .before .before .args in let m = c .before .before .before .before .before .before .before .before .before .before .before .before .before .before .before .before .before .before .before .before .before .before .before .before .before .before .before .before .before .before .before .before .before .before .before .before .before .before .before .before .before .before .before .before .before .before .before .before .before .before .before .before .before .before .before .before .before .before .before .before .shorter in let f = c .before .before .before .before .before .before .before .before .before .before .before .before .before .before .before .before .before .before .before .before .before .before .before .before .before .before .before .before .before .before .before .before .before .before .before .before .before .before .before .before .before .before .before .before .before .before .before .before .before .before .before .before .before .before .before .fill in let o = c .before .before .before .before .before .before .before .before .before .before .before .before .before .before .before .before .before .before .before .before .before .before .before .before .before .before .before .before .before .before .before .before .before .before .before .before .before .before .before .before .before .before .before .before .before .before .before .before .first-of in let p = c .before .before .before .before .before .before .before .before .before .before .before .before .before .before .before .before .before .before .before .before .before .before .before .before .before .before .before .before .before .before .before .before .before .before .before .before .before .before .before .before .before .first-pass in let z = c .before .before .before .before .before .before .before .before .before .before .before .before .before .before .before .before .before .before .before .before .before .before .before .before .before .before .before .before .before .before .before .before .before .clear-u64 in let n = c .before .before .before .before .before .before .before .before .before .before .before .before .before .before .before .before .before .before .before .before .before .before .before .before .before .before .before .before .before .before .shorter2 in let k = c .before .before .before .before .before .before .before .before .before .before .before .before .before .before .before .before .before .before .before .before .before .before .before .before .before .before .before .count in let g = c .before .before .before .before .before .before .before .before .before .before .before .before .before .before .before .before .assign-again in
     let x = assigned-first (documents (a .offsets .now) (a .components .now) (a .values .now)) (a .cut) (take (m .result) (a .centroids .now)) (a .known .now) (length (a .starts .now)) (length (a .slots .now)) (length (a .weights .now)) (length (a .scores .now)) (length (a .counts .now)) (length (a .keys .now)) (a .ids .now) (a .taken .now)
     (f .last .1 .1 .1 .1 .0) (f .last .1 .1 .1 .1 .1 .0) (f .last .1 .1 .1 .1 .1 .1 .0) (o .result .0) (p .last .1 .1 .1 .1 .1 .1 .1 .1 .1 .1 .1 .1 .1 .0) (z .last .0) (k .last .1 .0) (n .result) (f .ensures) (p .ensures .0) (o .ensures) (z .ensures) (n .ensures) (p .kept .1 .1 .1 .1 .1 .1 .1 .1 .1 .1 .1 .1 .1 .0) (k .ensures) in (
       assigned-both (documents (a .offsets .now) (a .components .now) (a .values .now)) (a .cut) (a .minimum) (a .centroids .now) (a .known .now) (a .competing .now) (length (a .starts .now)) (length (a .slots .now)) (length (a .weights .now)) (length (a .scores .now)) (length (a .counts .now)) (length (a .keys .now)) (a .ids .now) (a .taken .now)
@@ -90,13 +90,13 @@ pub assign-spec : {M : Type 1} → statement M
 assign-spec =
     tie.close
     (tie.spec
-    least-requires
+    shorter-requires
     slice-aggregate-all
     fill-requires
     first-of-requires
     first-pass-requires
     clear-u64-requires
-    least-requires-2
+    shorter-requires-2
     slice-reshare-prefix-count
     slice-aggregate-count
     count-requires

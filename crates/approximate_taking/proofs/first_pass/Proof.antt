@@ -22,29 +22,29 @@ abbrev μ-loop : tie.MeasureT-loop
 clear-f32-requires : tie.Need-clear-f32-requires Inv-loop μ-loop
 clear-f32-requires c κs = search needs
 
-least-requires : tie.Need-least-requires Inv-loop μ-loop
-least-requires c κs = search needs
+shorter-requires : tie.Need-shorter-requires Inv-loop μ-loop
+shorter-requires c κs = search needs
 
 loop-holds : tie.Need-loop-holds Inv-loop μ-loop
 loop-holds c = let a = c .before .before .before .before .before .before .before .before .before .before .before .before .before .before .before .before .before .args in let z = c .before .before .before .clear-f32 in (refl, refl, refl, omega arith, over-start (λ i r. rankIn (a .known .now) (nearlyChoice (a .cut) (a .first .0) (a .competing .now) (documents (a .starts .now) (a .slots .now) (a .weights .now)) (length (z .last .0)) (length (a .keys .now)) (documents (a .offsets .now) (a .components .now) (a .values .now)) i)) (a .ids .now) (a .taken .now), z .ensures ∙ ap (λ n. replicate n none) (sym (z .kept .0)))
 
-mul-t25 : tie.Need-mul-t25 Inv-loop μ-loop
-mul-t25 c = scaled-fits (c .before .loop .i) (length (c .before .before .before .before .before .before .before .before .before .before .before .before .before .before .before .before .before .before .before .args .ids .now)) 8 (omega (arith, c .loop-test .taken, c .before .before .least .ensures)) (c .before .before .before .before .before .before .before .before .before .before .before .before .before .before .before .before .before .before .before .good .1 .1 .1 .0 .1)
+mul-t24 : tie.Need-mul-t24 Inv-loop μ-loop
+mul-t24 c = scaled-fits (c .before .loop .i) (length (c .before .before .before .before .before .before .before .before .before .before .before .before .before .before .before .before .before .before .before .args .ids .now)) 8 (omega (arith, c .loop-test .taken, c .before .before .shorter .ensures)) (c .before .before .before .before .before .before .before .before .before .before .before .before .before .before .before .before .before .before .before .good .1 .1 .1 .0 .1)
 
-shared-slice-read-t27 : tie.Need-shared-slice-read-t27 Inv-loop μ-loop
-shared-slice-read-t27 c = omega (arith, c .before .loop-test .taken, c .before .before .before .least .ensures)
+shared-slice-read-t26 : tie.Need-shared-slice-read-t26 Inv-loop μ-loop
+shared-slice-read-t26 c = omega (arith, c .before .loop-test .taken, c .before .before .before .shorter .ensures)
 
 near-rank-requires : tie.Need-near-rank-requires Inv-loop μ-loop
 near-rank-requires c κs = let l = c .before .before .before .before .loop in l .inv .5 ∙ ap (λ n. replicate n none) (sym (l .inv .0))
 
 mul-taken : tie.Need-mul-taken Inv-loop μ-loop
-mul-taken c = scaled-fits (c .before .before .before .before .before .before .before .before .before .loop .i) (length (c .before .before .before .before .before .before .before .before .before .before .before .before .before .before .before .before .before .before .before .before .before .before .before .before .before .before .before .args .ids .now)) 8 (omega (arith, c .before .before .before .before .before .before .before .before .loop-test .taken, c .before .before .before .before .before .before .before .before .before .before .least .ensures)) (c .before .before .before .before .before .before .before .before .before .before .before .before .before .before .before .before .before .before .before .before .before .before .before .before .before .before .before .good .1 .1 .1 .0 .1)
+mul-taken c = scaled-fits (c .before .before .before .before .before .before .before .before .before .loop .i) (length (c .before .before .before .before .before .before .before .before .before .before .before .before .before .before .before .before .before .before .before .before .before .before .before .before .before .before .before .args .ids .now)) 8 (omega (arith, c .before .before .before .before .before .before .before .before .loop-test .taken, c .before .before .before .before .before .before .before .before .before .before .shorter .ensures)) (c .before .before .before .before .before .before .before .before .before .before .before .before .before .before .before .before .before .before .before .before .before .before .before .before .before .before .before .good .1 .1 .1 .0 .1)
 
 slice-write-taken : tie.Need-slice-write-taken Inv-loop μ-loop
-slice-write-taken c = omega (arith, c .before .before .before .before .before .before .before .before .loop-test .taken, c .before .before .before .before .before .before .before .before .before .before .least .ensures, c .before .before .before .before .before .before .before .before .before .loop .inv .2)
+slice-write-taken c = omega (arith, c .before .before .before .before .before .before .before .before .loop-test .taken, c .before .before .before .before .before .before .before .before .before .before .shorter .ensures, c .before .before .before .before .before .before .before .before .before .loop .inv .2)
 
 add-i : tie.Need-add-i Inv-loop μ-loop
-add-i c = omega (arith, c .before .before .before .before .before .before .before .before .loop-test .taken, c .before .before .before .before .before .before .before .before .before .before .least .ensures, c .before .before .before .before .before .before .before .before .before .before .before .before .before .before .before .before .before .before .before .before .before .before .before .before .before .before .before .good .1 .1 .1 .0 .0)
+add-i c = omega (arith, c .before .before .before .before .before .before .before .before .loop-test .taken, c .before .before .before .before .before .before .before .before .before .before .shorter .ensures, c .before .before .before .before .before .before .before .before .before .before .before .before .before .before .before .before .before .before .before .before .before .before .before .before .before .before .before .good .1 .1 .1 .0 .0)
 
 loop-less : tie.Need-loop-less Inv-loop μ-loop
 loop-less c = omega (arith, c .before .before .before .before .before .before .before .before .loop-test .taken)
@@ -56,7 +56,7 @@ loop-again c = let l = c .before .before .before .before .before .before .before
   length-set (l .taken) (l .i) (r .result) ∙ l .inv .2,
   omega (arith, c .before .before .before .before .before .before .before .before .loop-test .taken),
   taken-first (a .known .now) (a .cut) (a .first .0) (a .competing .now) (documents (a .starts .now) (a .slots .now) (a .weights .now)) (length (z .last .0)) (length (a .keys .now)) (documents (a .offsets .now) (a .components .now) (a .values .now)) (a .ids .now) (a .taken .now) (l .taken) (l .i)
-      (length (l .scores)) (length (l .keys)) (r .result) (l .inv .4) (omega (arith, c .before .before .before .before .before .before .before .before .loop-test .taken, c .before .before .before .before .before .before .before .before .before .before .least .ensures)) (omega (arith, c .before .before .before .before .before .before .before .before .loop-test .taken, c .before .before .before .before .before .before .before .before .before .before .least .ensures)) (l .inv .0) (l .inv .1) (r .ensures .0),
+      (length (l .scores)) (length (l .keys)) (r .result) (l .inv .4) (omega (arith, c .before .before .before .before .before .before .before .before .loop-test .taken, c .before .before .before .before .before .before .before .before .before .before .shorter .ensures)) (omega (arith, c .before .before .before .before .before .before .before .before .loop-test .taken, c .before .before .before .before .before .before .before .before .before .before .shorter .ensures)) (l .inv .0) (l .inv .1) (r .ensures .0),
   r .ensures .1 ∙ ap (λ n. replicate n none) (l .inv .0),
 )
 
@@ -74,7 +74,7 @@ same-length-3 c = c .before .before .before .before .before .loop .inv .2
 
 returns : tie.Need-returns Inv-loop μ-loop
 returns c = let l = c .before .before .before .before .before .loop in let a = c .before .before .before .before .before .before .before .before .before .before .before .before .before .before .before .before .before .before .before .before .before .before .before .args in let z = c .before .before .before .before .before .before .before .before .before .clear-f32 in (
-  over-cut (λ i r. rankIn (a .known .now) (nearlyChoice (a .cut) (a .first .0) (a .competing .now) (documents (a .starts .now) (a .slots .now) (a .weights .now)) (length (z .last .0)) (length (a .keys .now)) (documents (a .offsets .now) (a .components .now) (a .values .now)) i)) (a .ids .now) (a .taken .now) (l .taken) (l .i) (c .before .before .before .before .before .before .least .result) (l .inv .4) (c .before .before .before .before .before .before .least .ensures) (omega (arith, l .inv .3, c .before .before .before .before .loop-test .left))
+  over-cut (λ i r. rankIn (a .known .now) (nearlyChoice (a .cut) (a .first .0) (a .competing .now) (documents (a .starts .now) (a .slots .now) (a .weights .now)) (length (z .last .0)) (length (a .keys .now)) (documents (a .offsets .now) (a .components .now) (a .values .now)) i)) (a .ids .now) (a .taken .now) (l .taken) (l .i) (c .before .before .before .before .before .before .shorter .result) (l .inv .4) (c .before .before .before .before .before .before .shorter .ensures) (omega (arith, l .inv .3, c .before .before .before .before .loop-test .left))
       ∙ ap (λ n. over (λ i r. rankIn (a .known .now) (nearlyChoice (a .cut) (a .first .0) (a .competing .now) (documents (a .starts .now) (a .slots .now) (a .weights .now)) (n) (length (a .keys .now)) (documents (a .offsets .now) (a .components .now) (a .values .now)) i)) (a .ids .now) (a .taken .now)) (z .kept .0),
   l .inv .5 ∙ ap (λ n. replicate n none) (z .kept .0),
   c .before .before .clear-u64 .ensures ∙ ap (λ n. replicate n 0) (l .inv .1),
@@ -87,10 +87,10 @@ first-pass-spec =
     Inv-loop
     μ-loop
     clear-f32-requires
-    least-requires
+    shorter-requires
     loop-holds
-    mul-t25
-    shared-slice-read-t27
+    mul-t24
+    shared-slice-read-t26
     near-rank-requires
     mul-taken
     slice-write-taken

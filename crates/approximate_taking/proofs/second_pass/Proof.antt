@@ -22,38 +22,38 @@ abbrev μ-loop : tie.MeasureT-loop
 clear-f32-requires : tie.Need-clear-f32-requires Inv-loop μ-loop
 clear-f32-requires c κs = search needs
 
-least-requires : tie.Need-least-requires Inv-loop μ-loop
-least-requires c κs = search needs
+shorter-requires : tie.Need-shorter-requires Inv-loop μ-loop
+shorter-requires c κs = search needs
 
 loop-holds : tie.Need-loop-holds Inv-loop μ-loop
 loop-holds c = let a = c .before .before .before .before .before .before .before .before .before .before .before .before .before .before .before .before .before .before .args in let z = c .before .before .before .clear-f32 in (refl, refl, refl, omega arith, over-start (againRank (a .known .now) (a .counts .now) (a .minimum) (a .cut) (a .first .0) (a .competing .now) (documents (a .starts .now) (a .slots .now) (a .weights .now)) (length (z .last .0)) (length (a .keys .now)) (documents (a .offsets .now) (a .components .now) (a .values .now))) (a .ids .now) (a .taken .now), z .ensures ∙ ap (λ n. replicate n none) (sym (z .kept .0)))
 
 mul-is-small : tie.Need-mul-is-small Inv-loop μ-loop
-mul-is-small c = scaled-fits (c .before .loop .i) (length (c .before .before .before .before .before .before .before .before .before .before .before .before .before .before .before .before .before .before .before .before .args .ids .now)) 8 (omega (arith, c .loop-test .taken, c .before .before .least .ensures)) (c .before .before .before .before .before .before .before .before .before .before .before .before .before .before .before .before .before .before .before .before .good .1 .1 .1 .0 .1)
+mul-is-small c = scaled-fits (c .before .loop .i) (length (c .before .before .before .before .before .before .before .before .before .before .before .before .before .before .before .before .before .before .before .before .args .ids .now)) 8 (omega (arith, c .loop-test .taken, c .before .before .shorter .ensures)) (c .before .before .before .before .before .before .before .before .before .before .before .before .before .before .before .before .before .before .before .before .good .1 .1 .1 .0 .1)
 
 slice-read-is-small : tie.Need-slice-read-is-small Inv-loop μ-loop
-slice-read-is-small c = omega (arith, c .before .loop-test .taken, c .before .before .before .least .ensures, c .before .before .loop .inv .2)
+slice-read-is-small c = omega (arith, c .before .loop-test .taken, c .before .before .before .shorter .ensures, c .before .before .loop .inv .2)
 
 is-small-requires : tie.Need-is-small-requires Inv-loop μ-loop
 is-small-requires c κs = search needs
 
-mul-t31 : tie.Need-mul-t31 Inv-loop μ-loop
-mul-t31 c = scaled-fits (c .before .before .before .before .loop .i) (length (c .before .before .before .before .before .before .before .before .before .before .before .before .before .before .before .before .before .before .before .before .before .before .before .args .ids .now)) 8 (omega (arith, c .before .before .before .loop-test .taken, c .before .before .before .before .before .least .ensures)) (c .before .before .before .before .before .before .before .before .before .before .before .before .before .before .before .before .before .before .before .before .before .before .before .good .1 .1 .1 .0 .1)
+mul-t30 : tie.Need-mul-t30 Inv-loop μ-loop
+mul-t30 c = scaled-fits (c .before .before .before .before .loop .i) (length (c .before .before .before .before .before .before .before .before .before .before .before .before .before .before .before .before .before .before .before .before .before .before .before .args .ids .now)) 8 (omega (arith, c .before .before .before .loop-test .taken, c .before .before .before .before .before .shorter .ensures)) (c .before .before .before .before .before .before .before .before .before .before .before .before .before .before .before .before .before .before .before .before .before .before .before .good .1 .1 .1 .0 .1)
 
-shared-slice-read-t33 : tie.Need-shared-slice-read-t33 Inv-loop μ-loop
-shared-slice-read-t33 c = omega (arith, c .before .before .before .before .loop-test .taken, c .before .before .before .before .before .before .least .ensures)
+shared-slice-read-t32 : tie.Need-shared-slice-read-t32 Inv-loop μ-loop
+shared-slice-read-t32 c = omega (arith, c .before .before .before .before .loop-test .taken, c .before .before .before .before .before .before .shorter .ensures)
 
 near-rank-requires : tie.Need-near-rank-requires Inv-loop μ-loop
 near-rank-requires c κs = let l = c .before .before .before .before .before .before .before .loop in l .inv .5 ∙ ap (λ n. replicate n none) (sym (l .inv .0))
 
 mul-taken : tie.Need-mul-taken Inv-loop μ-loop
-mul-taken c = scaled-fits (c .before .before .before .before .before .before .before .before .before .before .before .before .loop .i) (length (c .before .before .before .before .before .before .before .before .before .before .before .before .before .before .before .before .before .before .before .before .before .before .before .before .before .before .before .before .before .before .before .args .ids .now)) 8 (omega (arith, c .before .before .before .before .before .before .before .before .before .before .before .loop-test .taken, c .before .before .before .before .before .before .before .before .before .before .before .before .before .least .ensures)) (c .before .before .before .before .before .before .before .before .before .before .before .before .before .before .before .before .before .before .before .before .before .before .before .before .before .before .before .before .before .before .before .good .1 .1 .1 .0 .1)
+mul-taken c = scaled-fits (c .before .before .before .before .before .before .before .before .before .before .before .before .loop .i) (length (c .before .before .before .before .before .before .before .before .before .before .before .before .before .before .before .before .before .before .before .before .before .before .before .before .before .before .before .before .before .before .before .args .ids .now)) 8 (omega (arith, c .before .before .before .before .before .before .before .before .before .before .before .loop-test .taken, c .before .before .before .before .before .before .before .before .before .before .before .before .before .shorter .ensures)) (c .before .before .before .before .before .before .before .before .before .before .before .before .before .before .before .before .before .before .before .before .before .before .before .before .before .before .before .before .before .before .before .good .1 .1 .1 .0 .1)
 
 slice-write-taken : tie.Need-slice-write-taken Inv-loop μ-loop
-slice-write-taken c = omega (arith, c .before .before .before .before .before .before .before .before .before .before .before .loop-test .taken, c .before .before .before .before .before .before .before .before .before .before .before .before .before .least .ensures, c .before .before .before .before .before .before .before .before .before .before .before .before .loop .inv .2)
+slice-write-taken c = omega (arith, c .before .before .before .before .before .before .before .before .before .before .before .loop-test .taken, c .before .before .before .before .before .before .before .before .before .before .before .before .before .shorter .ensures, c .before .before .before .before .before .before .before .before .before .before .before .before .loop .inv .2)
 
 add-i : tie.Need-add-i Inv-loop μ-loop
-add-i c = omega (arith, c .before .before .before .loop-test .taken, c .before .before .before .before .before .least .ensures, c .before .before .before .before .before .before .before .before .before .before .before .before .before .before .before .before .before .before .before .before .before .before .before .good .1 .1 .1 .0 .0)
+add-i c = omega (arith, c .before .before .before .loop-test .taken, c .before .before .before .before .before .shorter .ensures, c .before .before .before .before .before .before .before .before .before .before .before .before .before .before .before .before .before .before .before .before .before .before .before .good .1 .1 .1 .0 .0)
 
 loop-less : tie.Need-loop-less Inv-loop μ-loop
 loop-less c = omega (arith, c .before .before .before .loop-test .taken)
@@ -66,7 +66,7 @@ loop-again c = let l = c .before .before .before .before .loop in let a = c .bef
       ap length (w .11) ∙ length-set (l .taken) (l .i) (r .result) ∙ l .inv .2,
       omega (arith, c .before .before .before .loop-test .taken),
       w .11 ∙ taken-again (a .known .now) (a .counts .now) (a .minimum) (a .cut) (a .first .0) (a .competing .now) (documents (a .starts .now) (a .slots .now) (a .weights .now)) (length (z .last .0)) (length (a .keys .now)) (documents (a .offsets .now) (a .components .now) (a .values .now)) (a .ids .now) (a .taken .now) (l .taken) (l .i)
-          (length (l .scores)) (length (l .keys)) (r .result) (s .result) (l .inv .4) (omega (arith, c .before .before .before .loop-test .taken, c .before .before .before .before .before .least .ensures)) (omega (arith, c .before .before .before .loop-test .taken, c .before .before .before .before .before .least .ensures)) (l .inv .0) (l .inv .1) (s .ensures) (w .0 .taken) (r .ensures .0),
+          (length (l .scores)) (length (l .keys)) (r .result) (s .result) (l .inv .4) (omega (arith, c .before .before .before .loop-test .taken, c .before .before .before .before .before .shorter .ensures)) (omega (arith, c .before .before .before .loop-test .taken, c .before .before .before .before .before .shorter .ensures)) (l .inv .0) (l .inv .1) (s .ensures) (w .0 .taken) (r .ensures .0),
       w .9 ∙ r .ensures .1 ∙ ap (λ n. replicate n none) (l .inv .0),
     ))
     (λ w. (
@@ -75,7 +75,7 @@ loop-again c = let l = c .before .before .before .before .loop in let a = c .bef
       ap length (w .3) ∙ l .inv .2,
       omega (arith, c .before .before .before .loop-test .taken),
       w .3 ∙ stayed (a .known .now) (a .counts .now) (a .minimum) (a .cut) (a .first .0) (a .competing .now) (documents (a .starts .now) (a .slots .now) (a .weights .now)) (length (z .last .0)) (length (a .keys .now)) (documents (a .offsets .now) (a .components .now) (a .values .now)) (a .ids .now) (a .taken .now) (l .taken) (l .i)
-          (s .result) (l .inv .4) (omega (arith, c .before .before .before .loop-test .taken, c .before .before .before .before .before .least .ensures)) (omega (arith, c .before .before .before .loop-test .taken, c .before .before .before .before .before .least .ensures)) (s .ensures) (w .0 .left),
+          (s .result) (l .inv .4) (omega (arith, c .before .before .before .loop-test .taken, c .before .before .before .before .before .shorter .ensures)) (omega (arith, c .before .before .before .loop-test .taken, c .before .before .before .before .before .shorter .ensures)) (s .ensures) (w .0 .left),
       w .1 ∙ l .inv .5,
     ))
     (c .if1 .came)
@@ -94,7 +94,7 @@ same-length-3 c = c .before .before .before .before .before .loop .inv .2
 
 returns : tie.Need-returns Inv-loop μ-loop
 returns c = let l = c .before .before .before .before .before .loop in let a = c .before .before .before .before .before .before .before .before .before .before .before .before .before .before .before .before .before .before .before .before .before .before .before .before .args in let z = c .before .before .before .before .before .before .before .before .before .clear-f32 in (
-  over-cut (againRank (a .known .now) (a .counts .now) (a .minimum) (a .cut) (a .first .0) (a .competing .now) (documents (a .starts .now) (a .slots .now) (a .weights .now)) (length (z .last .0)) (length (a .keys .now)) (documents (a .offsets .now) (a .components .now) (a .values .now))) (a .ids .now) (a .taken .now) (l .taken) (l .i) (c .before .before .before .before .before .before .least .result) (l .inv .4) (c .before .before .before .before .before .before .least .ensures) (omega (arith, l .inv .3, c .before .before .before .before .loop-test .left))
+  over-cut (againRank (a .known .now) (a .counts .now) (a .minimum) (a .cut) (a .first .0) (a .competing .now) (documents (a .starts .now) (a .slots .now) (a .weights .now)) (length (z .last .0)) (length (a .keys .now)) (documents (a .offsets .now) (a .components .now) (a .values .now))) (a .ids .now) (a .taken .now) (l .taken) (l .i) (c .before .before .before .before .before .before .shorter .result) (l .inv .4) (c .before .before .before .before .before .before .shorter .ensures) (omega (arith, l .inv .3, c .before .before .before .before .loop-test .left))
       ∙ ap (λ n. over (againRank (a .known .now) (a .counts .now) (a .minimum) (a .cut) (a .first .0) (a .competing .now) (documents (a .starts .now) (a .slots .now) (a .weights .now)) n (length (a .keys .now)) (documents (a .offsets .now) (a .components .now) (a .values .now))) (a .ids .now) (a .taken .now)) (z .kept .0),
   l .inv .5 ∙ ap (λ n. replicate n none) (z .kept .0),
   c .before .before .clear-u64 .ensures ∙ ap (λ n. replicate n 0) (l .inv .1),
@@ -107,13 +107,13 @@ second-pass-spec =
     Inv-loop
     μ-loop
     clear-f32-requires
-    least-requires
+    shorter-requires
     loop-holds
     mul-is-small
     slice-read-is-small
     is-small-requires
-    mul-t31
-    shared-slice-read-t33
+    mul-t30
+    shared-slice-read-t32
     near-rank-requires
     mul-taken
     slice-write-taken

@@ -2,7 +2,10 @@
 use Rattle.kept_list.specs.Lent.{lent}
 use Rattle.probing.specs.Probed.{terms, lends}
 use Rattle.reasons.proofs.Fates.{fated-in}
+use mathlib.Core.Path.{sym}
+use lib.Seq.{length-take-le}
 use borrow.Author.Needs.{needs}
+use native.Mathlib.Omega.{arith}
 use Rattle.reasons.proofs.probe_to.Statement.{statement}
 use Rattle.reasons.proofs.probe_to.Tie as tie
 use Rattle.reasons.proofs.probe_to.Reads as reads
@@ -10,6 +13,7 @@ use Rattle.reasons.proofs.probe_to.Lts as lts
 use Rattle.probing.proofs.probe.Reads as probe-reads
 use Rattle.reasons.proofs.reached_fate.Reads as reached-fate-reads
 use Rattle.held.proofs.offset_at.Reads as offset-at-reads
+use Rattle.lists.proofs.shorter.Reads as shorter-reads
 
 slice-aggregate-probe : tie.Need-slice-aggregate-probe
 slice-aggregate-probe c = search needs
@@ -26,6 +30,18 @@ probe-requires c κs = search needs
 offset-at-requires : tie.Need-offset-at-requires
 offset-at-requires c κs = search needs
 
+add-bytes : tie.Need-add-bytes
+add-bytes c = omega (arith, c .before .before .before .before .before .before .before .before .before .before .before .before .before .before .before .before .before .before .before .before .before .before .before .good .1 .1 .1 .1 .1 .1 .1 .0)
+
+shorter-requires : tie.Need-shorter-requires
+shorter-requires c κs = search needs
+
+slice-reshare-prefix-reached-fate : tie.Need-slice-reshare-prefix-reached-fate
+slice-reshare-prefix-reached-fate c = search needs
+
+slice-aggregate-reached-fate : tie.Need-slice-aggregate-reached-fate
+slice-aggregate-reached-fate c = sym (length-take-le (c .before .shorter .result) (c .before .before .before .before .before .before .before .before .before .probe .last .1 .1 .1 .1 .1 .1 .1 .1 .1 .1 .1 .1 .1 .1 .0) (omega (arith, c .before .shorter .ensures)))
+
 reached-fate-requires : tie.Need-reached-fate-requires
 reached-fate-requires c κs = search needs
 
@@ -39,7 +55,7 @@ same-length-3 : tie.Need-same-length-3
 same-length-3 c = search needs
 
 returns : tie.Need-returns
-returns c = let a = c .before .before .before .before .before .before .before .before .before .before .before .before .before .before .before .before .before .before .before .before .before .before .before .before .before .args in fated-in (a .k) (a .factor) (terms (a .asked .now) (a .weights .now) (a .components .now) (a .values .now)) (a .postings .now) (a .first) (a .score) (a .position) (lends (lent (a .length .now) (a .packed .now) (a .scores .now)) (a .visits .now)) _ _ _ (c .before .before .before .before .before .before .before .before .before .probe .ensures) (c .before .before .offset-at .ensures) (c .reached-fate .ensures)
+returns c = let a = c .before .before .before .before .before .before .before .before .before .before .before .before .before .before .before .before .before .before .before .before .before .before .before .before .before .before .args in fated-in (a .k) (a .factor) (terms (a .asked .now) (a .weights .now) (a .components .now) (a .values .now)) (a .postings .now) (a .first) (a .score) (a .position) (lends (lent (a .length .now) (a .packed .now) (a .scores .now)) (a .visits .now)) _ _ _ (c .before .before .before .before .before .before .before .before .before .before .probe .ensures) (c .before .before .before .offset-at .ensures) _ (c .before .before .shorter .ensures) (c .reached-fate .ensures)
 
 pub probe-to-spec : {M : Type 1} → statement M
 probe-to-spec =
@@ -50,6 +66,10 @@ probe-to-spec =
     slice-aggregate-probe-3
     probe-requires
     offset-at-requires
+    add-bytes
+    shorter-requires
+    slice-reshare-prefix-reached-fate
+    slice-aggregate-reached-fate
     reached-fate-requires
     same-length
     same-length-2
