@@ -1,10 +1,10 @@
 -- The tests of an input one after another, and the pass over the listed ranges. Assumes nothing.
-use Prim.Native.Nat.{ℕ, zero, suc, _+_, _-_, _≤_, _<_, _/_, min}
+use Prim.Native.Nat.{ℕ, suc, _+_, _-_, _≤_, _<_, _/_, min}
 use native.Mathlib.Omega.{arith}
 use native.Mathlib.Numerals.{add-one}
-use mathlib.Core.Path.{_≡_, refl, sym, ap, _∙_}
+use mathlib.Core.Path.{_≡_, sym, ap, _∙_}
 use mathlib.Core.Bool.{Bool, true, false, not, _&&_, _||_, and-true, and-assoc}
-use mathlib.Core.List.{List, [], _∷_, _++_}
+use mathlib.Core.List.{List, [], _++_}
 use lib.ListN.{length, getD, take, drop}
 use lib.Seq.{drop-cons, drop-length, take-length}
 use lib.Dec.{leb, ltb, eqb}
@@ -18,6 +18,7 @@ use Rattle.configuration.specs.declared.BlockingStrategy.{BlockingStrategy}
 use Rattle.configuration.specs.declared.BlockingStrategy.the-variants.{FixedSize, RandomKmeans}
 use Rattle.configuration.specs.declared.ClusteringAlgorithm.{ClusteringAlgorithm}
 use Rattle.lists.specs.Lists.{every}
+use Rattle.lists.specs.Laws.{every-append}
 use Rattle.packing.specs.Packing.{startLimit, lengthLimit}
 use Rattle.blocking.specs.Limits.{listLimit, blockLimit, dimensionLimit}
 use Rattle.blocking.specs.Blocking.{centroidCount}
@@ -30,10 +31,6 @@ use Rattle.admission.specs.Admission.{centroidLimit, centroidsUsed, wron
 use Rattle.admission.specs.Answers.{rangesFit, takenOf}
 
 -- ---- two lists, one after the other
-every-append : {A : Type 0} (p : A → Bool) (a b : List A) → every p (a ++ b) ≡ (every p a && every p b)
-every-append p [] b = refl
-every-append p (x ∷ a) b = ap (λ t. p x && t) (every-append p a b) ∙ sym (and-assoc (p x) (every p a) (every p b))
-
 pub ids-both : (n : ℕ) (a b : List ℕ) → idsHold n (a ++ b) ≡ (idsHold n a && idsHold n b)
 unfolding idsHold
 ids-both n a b = every-append (λ i. ltb i n) a b

@@ -1,9 +1,8 @@
 -- Inputs that are admitted or refused, worked out: each refusal, and each before those after it. Assumes nothing.
-use Prim.Native.Nat.{ℕ, _^_}
+use Prim.Native.Nat.{ℕ}
 use mathlib.Core.Path.{_≡_, refl}
-use mathlib.Core.Bool.{true, false}
+use mathlib.Core.Bool.{false}
 use mathlib.Core.List.{List, [], _∷_}
-use mathlib.Core.Logic.{_⊎_, inl, inr}
 use lib.IntN.{pos}
 use lib.Ieee.{Float, fin, nan, inf, binary32, ofBits, ofInt, mul, toUnsigned}
 use Rattle.refusal.specs.declared.Verdict.{Verdict}

@@ -4,7 +4,7 @@ use native.Mathlib.Omega.{arith}
 use mathlib.Core.Path.{_≡_, refl, sym, ap, _∙_}
 use mathlib.Core.Bool.{Bool, true, false, not, cond}
 use mathlib.Core.List.{List, [], _∷_, _++_, map, zipWith}
-use lib.ListN.{length, getD, take, drop, replicate, length-map, length-take}
+use lib.ListN.{length, take, drop, replicate, length-map, length-take}
 use lib.Seq.{take-at, take-all}
 use lib.Ieee.{Float}
 use Rattle.sort.specs.Sorted.{sorted}
@@ -17,7 +17,7 @@ use Rattle.centroid_index.specs.Index.{indexed}
 use Rattle.assignment.specs.Nearest.{nearly, lastNoLess}
 use Rattle.assignment.specs.Loops.{nearly-loop}
 use Rattle.assignment.specs.Scored.{scoresOf}
-use Rattle.clusters.specs.Clusters.{assign, small, dissolved, survivors, approximately}
+use Rattle.clusters.specs.Clusters.{assign, dissolved, survivors, approximately}
 use Rattle.clusters.specs.Ordered.{sorted-ordered, among-sorted}
 use Rattle.clusters.specs.Ranks.{rankOf, Among}
 use Rattle.clusters.specs.Canonical.{reassign-is}

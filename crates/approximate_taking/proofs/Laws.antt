@@ -1,7 +1,7 @@
 -- The steps of both passes, and where they end: at the last document, or at the last place for one. Assumes nothing.
 use Prim.Native.Nat.{ℕ, zero, suc, _+_, _<_, min}
 use native.Mathlib.Omega.{arith}
-use mathlib.Core.Path.{_≡_, refl, sym, ap, _∙_}
+use mathlib.Core.Path.{_≡_, sym, ap, _∙_}
 use mathlib.Core.Bool.{Bool, true, false, cond}
 use mathlib.Core.List.{List, [], _∷_, _++_, zipWith}
 use lib.ListN.{length, getD, set, take, drop}

@@ -1,13 +1,12 @@
 -- How the loops begin and end. Assumes nothing.
-use Prim.Native.Nat.{ℕ, zero, suc}
+use Prim.Native.Nat.{ℕ}
 use native.Mathlib.Omega.{arith}
 use mathlib.Core.Path.{_≡_, refl, sym, ap, _∙_}
 use mathlib.Core.List.{List, [], _∷_, foldl, zipWith}
 use lib.ListN.{length, getD, drop}
-use lib.IntN.{pos}
-use lib.Ieee.{Float, nan, fin, binary32, ofBits}
+use lib.Ieee.{Float, nan, binary32, ofBits}
 use Rattle.assignment.specs.declared.Candidate.{Candidate}
-use Rattle.assignment.specs.Nearest.{candidate, centroidOf, ifGreater, ifNoLess, firstAbove, lastFrom, lastNoLess}
+use Rattle.assignment.specs.Nearest.{candidate, centroidOf, ifGreater, ifNoLess, firstAbove, lastNoLess}
 
 pub first-none : (cs : List ℕ) (xs : List Float) → length cs ≡ 0 → 0 ≡ firstAbove cs xs
 unfolding firstAbove zipWith

@@ -5,7 +5,7 @@ use native.Mathlib.Numerals.{add-one}
 use native.Mathlib.Decide.{decLe}
 use mathlib.Core.Path.{_≡_, refl, sym, ap, _∙_, subst}
 use mathlib.Core.Bool.{Bool, true, false, cond}
-use mathlib.Core.List.{List, [], _∷_, _++_, map, zipWith, append-assoc}
+use mathlib.Core.List.{List, [], _∷_, _++_, map, append-assoc}
 use lib.ListN.{length, getD, set, take, drop, length-map, length-append, length-take}
 use lib.Seq.{sets, take-at, drop-at, set-at, take-all, take-append-le}
 use lib.Dec.{T}
@@ -15,7 +15,7 @@ use Rattle.lists.specs.Sorted.{each-sortedBy}
 use Rattle.sort.specs.Sorted.{sorted}
 use Rattle.sort.specs.Keys.{sorted-keys}
 use Rattle.documents.specs.Documents.{Term, term, paired, Documents, start, size, terms, greaterFirst, falling, largest}
-use Rattle.documents.specs.TermKeys.{termKey, termOf, Held, term-key-order, term-back}
+use Rattle.documents.specs.TermKeys.{termKey, termOf, Held, term-key-order, term-back, held-paired}
 use Rattle.documents.specs.Places.{terms-part}
 use Rattle.centroid_index.specs.Walks.{walk-step}
 
@@ -70,12 +70,6 @@ each-take P (suc n) [] e = tt
 each-take P (suc n) (x ∷ l) e = (e .0, each-take P n l (e .1))
 
 -- ---- terms as slices hold them
-pub held-paired : (cs : List ℕ) (vs : List Float) → ((k : ℕ) → getD cs k 0 < 4294967296) → ((k : ℕ) → T (fits binary32 (getD vs k nan))) → EachOf Held (paired cs vs)
-unfolding paired zipWith
-held-paired [] vs f g = tt
-held-paired (c ∷ cs) [] f g = tt
-held-paired (c ∷ cs) (v ∷ vs) f g = (record { narrow = f 0; fit = g 0 }, held-paired cs vs (λ k. f (suc k)) (λ k. g (suc k)))
-
 each-drop : {A : Type 0} (P : A → Type 0) (n : ℕ) (l : List A) → EachOf P l → EachOf P (drop n l)
 each-drop P zero l e = e
 each-drop P (suc n) [] e = tt

@@ -1,13 +1,13 @@
 -- Both loops find what document 01 asks for, with no condition on the values. Assumes nothing.
-use Prim.Native.Nat.{ℕ, _*_, _≤_, _<_}
+use Prim.Native.Nat.{ℕ}
 use native.Mathlib.Omega.{arith}
 use mathlib.Core.Path.{_≡_, refl, sym, ap, _∙_, subst}
-use mathlib.Core.Logic.{_⊎_, inl, inr}
-use mathlib.Core.Bool.{Bool, true, false, not, _&&_, _||_, cond}
+use mathlib.Core.Logic.{inl, inr}
+use mathlib.Core.Bool.{Bool, true, false, not}
 use mathlib.Core.List.{List, [], _∷_, _++_, map, foldl, zipWith}
 use lib.IntN.{ℤ, pos}
 use lib.Dec.{T, leb, ltb}
-use borrow.Author.Tests.{lt-ltb, le-ltb, le-leb, lt-leb, ltb-true, ltb-false}
+use borrow.Author.Tests.{le-ltb, le-leb, lt-leb, ltb-true, ltb-false}
 use lib.Ieee.{Float, nan, inf, fin, binary32, fits, add, lt, eq, isNan, below}
 use lib.Ieee.Fits.{add-fits}
 use Rattle.float32.specs.Units.{one, mag}
@@ -16,10 +16,10 @@ use Rattle.float32.specs.OrderLaws.{atMost-refl, atMost-trans, atMost-total}
 use Rattle.float32.specs.Heights.{height, lt-units, at-most-is}
 use Rattle.float32.specs.Tests.{is-true, yes}
 use Rattle.lists.specs.Lists.{EachOf, those, firstOr, lastOr}
-use Rattle.lists.specs.Greatest.{highest, Under, Below, last-greatest, lastBest, last-fold, strict-fold}
-use Rattle.documents.specs.Documents.{Term, Documents, terms, sum, products, dot, largest}
+use Rattle.lists.specs.Greatest.{highest, Under, Below, last-greatest, last-fold, strict-fold}
+use Rattle.documents.specs.Documents.{Term, Documents, terms, products, dot, largest}
 use Rattle.assignment.specs.declared.Candidate.{Candidate}
-use Rattle.assignment.specs.Nearest.{candidate, centroidOf, candidates, greatest, aboveZero, nearest, nearly, ifGreater, ifNoLess, firstAbove, lastFrom, lastNoLess}
+use Rattle.assignment.specs.Nearest.{candidate, centroidOf, candidates, greatest, aboveZero, nearest, nearly, ifGreater, firstAbove, lastFrom, lastNoLess}
 
 -- ---- a dot product is an f32
 sum-fits : (x : Float) (xs : List Float) → T (fits binary32 x) → T (fits binary32 (foldl (add binary32) x xs))

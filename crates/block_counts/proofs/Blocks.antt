@@ -10,9 +10,9 @@ use lib.Dec.{eqb}
 use lib.Ieee.{Float}
 use borrow.Author.Tests.{eq-eqb, ne-eqb}
 use Rattle.lists.specs.Lists.{EachOf, every, between}
+use Rattle.lists.specs.Laws.{both}
 use Rattle.documents.specs.Documents.{Term, Documents}
 use Rattle.documents.specs.Checks.{documentsHold}
-use Rattle.documents.specs.Laws.{both}
 use Rattle.documents.specs.TermKeys.{termKey, valueOfTerm, Held}
 use Rattle.documents.specs.TermKeys as key
 use Rattle.configuration.specs.declared.SummarizationStrategy.{SummarizationStrategy}

@@ -12,12 +12,13 @@ use Rattle.refusal.specs.declared.Refusal.the-variants.{OutsideLimits, WrongTer
 use Rattle.refusal.specs.declared.Verdict.{Verdict}
 use Rattle.refusal.specs.declared.Verdict.the-variants.{Accepted, Refused}
 use Rattle.lists.specs.Lists.{every}
+use Rattle.lists.specs.Laws.{neither as either-false}
 use Rattle.blocking.specs.Limits.{blockLimit}
 use Rattle.documents.specs.Documents.{Term, Documents}
 use Rattle.documents.specs.Checks.{documentsHold}
 use Rattle.configuration.specs.declared.SummarizationStrategy.{SummarizationStrategy}
 use Rattle.block_documents.specs.Blocks.{topOf, topsOf, blocksHold, anyShort, zeros, zeroValues}
-use Rattle.block_documents.specs.Steps.{either-false, roomy}
+use Rattle.block_documents.specs.Steps.{roomy}
 use Rattle.block_counts.specs.Counting.{Counting, counting, countVerdict, countLeft}
 use Rattle.block_counts.specs.Turns.{Noted, noted, countable, notedFrom, cleared, unlessRefused, notesLeft}
 use Rattle.block_counts.proofs.Blocks.{noted-all}

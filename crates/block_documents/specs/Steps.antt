@@ -2,18 +2,15 @@
 use Prim.Native.Nat.{ℕ, _+_, _-_, _*_, _^_, _≤_, _<_}
 use native.Mathlib.Nat.{le-trans, lt-trans, mul-le-mul-right}
 use native.Mathlib.Omega.{arith}
-use mathlib.Core.Path.{_≡_, refl, sym, _∙_}
-use mathlib.Core.Bool.{Bool, true, false, _||_}
+use mathlib.Core.Path.{_≡_, sym, _∙_}
+use mathlib.Core.Bool.{Bool, false, _||_}
 use lib.Dec.{ltb, lit<}
 use borrow.Author.Tests.{ltb-false}
 use mir.Syntax.{w64}
 use mir.Val.{Fits}
 use mir.Facts.{fits-le}
+use Rattle.lists.specs.Laws.{neither as either-false}
 use Rattle.block_documents.specs.Blocks.{anyShort}
-
-pub either-false : (a b : Bool) → (a || b) ≡ false → (a ≡ false) × (b ≡ false)
-either-false true b h = (h, let z : true ≡ false = h in cc)
-either-false false b h = (refl, h)
 
 -- buffers of which none is short have room
 pub roomy : (n keys places maxima : ℕ) (s : Bool) → s ≡ anyShort n keys places maxima → s ≡ false → (n ≤ keys) × (n ≤ places) × (n ≤ maxima)

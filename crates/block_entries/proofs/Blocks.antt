@@ -7,9 +7,9 @@ use mathlib.Core.List.{List, [], _∷_, map}
 use lib.ListN.{length, drop}
 use lib.Ieee.{Float}
 use Rattle.lists.specs.Lists.{EachOf, between}
+use Rattle.lists.specs.Laws.{both}
 use Rattle.documents.specs.Documents.{Term, Documents}
 use Rattle.documents.specs.Checks.{documentsHold}
-use Rattle.documents.specs.Laws.{both}
 use Rattle.documents.specs.TermKeys.{termKey, valueOfTerm, Held}
 use Rattle.configuration.specs.declared.SummarizationStrategy.{SummarizationStrategy}
 use Rattle.quantizing.specs.declared.Extent.{Extent}

@@ -62,14 +62,6 @@ module _ (ts : List Term) (t : Term) where
       go [] h = let z : ⊥ = omega arith in absurd z
       go (v ∷ vs) h = foldl-append (λ m x. cond (lt m x) x m) v vs (t .value ∷ [])
 
-pub or-left : (a b : Bool) → (a || b) ≡ false → a ≡ false
-or-left true b h = h
-or-left false b h = refl
-
-pub or-right : (a b : Bool) → (a || b) ≡ false → b ≡ false
-or-right true b h = absurd (true≢false h)
-or-right false b h = h
-
 -- ---- lists that are changed at one place
 pub map-same : (f g : ℕ → Float) (l : List ℕ) → ((k : ℕ) → k < length l → g (getD l k 0) ≡ f (getD l k 0)) → map g l ≡ map f l
 map-same f g [] h = refl

@@ -9,6 +9,7 @@ use lib.Dec.{eqb}
 use borrow.Author.Tests.{lt-ltb, le-ltb, eq-eqb, ne-eqb, eqb-true, eqb-false}
 use Rattle.lists.specs.Lists.{those, among, putOnce, rising}
 use Rattle.lists.specs.Groups.{RisesFrom, Against, less, same, more, against, rising-rises, among-rising, those-append}
+use Rattle.lists.specs.Laws.{permuted-length}
 
 abbrev pub but : ℕ → ℕ → Bool
 but c k = not (eqb k c)
@@ -95,12 +96,6 @@ firsts-permute [] = List·Permᴰ.List·Permᴰ·nil
 firsts-permute (c ∷ cs) = List·Permᴰ.List·Permᴰ·trans (List·Permᴰ.List·Permᴰ·cons refl (those-permutes (but c) (firsts-permute cs))) (put-permutes 0 c (rising cs) (rising-rises cs))
 
 -- ---- numbers below n are at most n, each counted once
-pub permuted-length : {A : Type 0} {l m : List A} → List·Permᴰ l m → length l ≡ length m
-permuted-length List·Permᴰ.List·Permᴰ·nil = refl
-permuted-length (List·Permᴰ.List·Permᴰ·cons e d) = ap suc (permuted-length d)
-permuted-length (List·Permᴰ.List·Permᴰ·swap e f) = refl
-permuted-length (List·Permᴰ.List·Permᴰ·trans d e) = permuted-length d ∙ permuted-length e
-
 abbrev pub Below : ℕ → List ℕ → Type 0
 Below n l = (m : ℕ) → among m l ≡ true → m < n
 

@@ -11,15 +11,15 @@ use borrow.Author.Tests.{eqb-true}
 use Rattle.lists.specs.Lists.{EachOf, every, among, withKey}
 use Rattle.lists.specs.Groups.{those-append, none-with}
 use Rattle.lists.specs.Sorted.{sort-permutes}
+use Rattle.lists.specs.Laws.{both, permuted-length}
 use Rattle.documents.specs.Documents.{Term, Documents}
 use Rattle.documents.specs.Checks.{documentsHold}
-use Rattle.documents.specs.Laws.{both}
 use Rattle.documents.specs.Bounds.{each-append}
 use Rattle.documents.specs.TermKeys.{Held}
 use Rattle.configuration.specs.declared.SummarizationStrategy.{SummarizationStrategy}
 use Rattle.quantizing.specs.Quantizing.{least, stepFor}
 use Rattle.quantizing.specs.Extremes.{F32}
-use Rattle.block_maximum.specs.Firsts.{Below, permuted-length}
+use Rattle.block_maximum.specs.Firsts.{Below}
 use Rattle.block_maximum.specs.Changes.{components}
 use Rattle.summaries.specs.Summaries.{blockTerms, blockMaximum, kept, lower, summary}
 use Rattle.summaries.specs.Once.{NoRepeat, kept-once}

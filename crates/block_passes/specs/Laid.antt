@@ -2,11 +2,11 @@
 use Prim.Native.Nat.{ℕ, suc, _+_, _*_, _≤_, _<_}
 use native.Mathlib.Omega.{arith}
 use mathlib.Core.Path.{_≡_, refl, sym, ap, _∙_, subst}
-use mathlib.Core.Bool.{Bool, true, false, cond}
+use mathlib.Core.Bool.{true}
 use mathlib.Core.List.{List, [], _∷_, _++_, map, foldl}
-use lib.ListN.{length, getD, drop, length-set, length-map, length-replicate}
+use lib.ListN.{length, getD, drop, length-map, length-replicate}
 use lib.Seq.{sets, sets-eq}
-use lib.Dec.{T, ltb}
+use lib.Dec.{T}
 use lib.Ieee.{Float, nan, binary32, fits}
 use Rattle.lists.specs.Lists.{EachOf, joined, keys, withKey}
 use Rattle.lists.specs.Groups.{offsets-count}
@@ -15,11 +15,11 @@ use Rattle.configuration.specs.declared.SummarizationStrategy.{SummarizationStr
 use Rattle.summaries.specs.Summaries.{summary}
 use Rattle.quantized_summary.specs.Layout.{Layout}
 use Rattle.layout.specs.Layouts.{Entry, entriesFrom, gathered, layout}
-use Rattle.layout.specs.Placing.{componentOf, cursor, moved, movedBy}
+use Rattle.layout.specs.Placing.{componentOf, movedBy}
 use Rattle.layout.specs.Counted.{scanFrom, presentFrom, startsFrom, total, Tally}
 use Rattle.layout.specs.Gathered.{present-keys, starts-groups}
 use Rattle.layout.specs.Guards.{blank, tally-of}
-use Rattle.layout.specs.Keys.{counted, lent, named, onTo, laidComponents, laidStarts, scanned}
+use Rattle.layout.specs.Keys.{counted, lent, named, onTo, laidComponents, laidStarts, scanned, counts-long as counted-long}
 use Rattle.layout.specs.Written.{written-components, written-offsets, written-entries, entries-total, total-entries}
 use Rattle.layout.specs.AnyOrder.{layout-any-order}
 use Rattle.block_documents.specs.Blocks.{topsOf, blocksHold}
@@ -36,14 +36,6 @@ abbrev pub inFrontOf : {A : Type 0} → List A → List A → List A
 inFrontOf result buffer = result ++ drop (length result) buffer
 
 -- ---- counts stay small
-counted-long : (cs counts : List ℕ) → length (foldl counted counts cs) ≡ length counts
-counted-long [] counts = refl
-counted-long (c ∷ cs) counts = counted-long cs (counted counts c) ∙ go (ltb (cursor counts c) 65535)
-  where
-    go : (b : Bool) → length (cond b (moved counts c) counts) ≡ length counts
-    go true = length-set counts c (cursor counts c + 1)
-    go false = refl
-
 total-small : (counts : List ℕ) → ((c : ℕ) → c < length counts → getD counts c 0 ≤ 65535) → total counts ≤ 65535 * length counts
 unfolding total
 total-small [] h = omega arith

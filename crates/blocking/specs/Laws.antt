@@ -9,16 +9,13 @@ use lib.Ieee.{Float}
 use lib.ListN.{length, getD, length-append, length-map, List·getD-append}
 use borrow.Author.Tests.{le-leb}
 use Rattle.lists.specs.Lists.{from, lastOr, neverFalls, between}
+use Rattle.lists.specs.Laws.{from-length as length-from}
 use Rattle.blocking.specs.Blocking.{starts, fixedOffsets, centroidCount}
 
 -- ---- the starts of k blocks
 from-more : (a k : ℕ) → from a (suc k) ≡ from a k ++ ((a + k) ∷ [])
 from-more a zero = let e : a ≡ a + 0 = omega arith in ap (λ n. n ∷ []) e
 from-more a (suc k) = let e : suc a + k ≡ a + suc k = omega arith in ap (λ l. a ∷ l) (from-more (suc a) k ∙ ap (λ n. from (suc a) k ++ (n ∷ [])) e)
-
-length-from : (a k : ℕ) → length (from a k) ≡ k
-length-from a zero = refl
-length-from a (suc k) = ap suc (length-from (suc a) k)
 
 pub starts-more : (b k : ℕ) → starts b (suc k) ≡ starts b k ++ ((k * b) ∷ [])
 starts-more b k = let e : 0 + k ≡ k = omega arith in ap (map (λ i. i * b)) (from-more 0 k) ∙ map-append (λ i. i * b) (from 0 k) ((0 + k) ∷ []) ∙ ap (λ n. starts b k ++ ((n * b) ∷ [])) e

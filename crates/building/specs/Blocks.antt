@@ -1,17 +1,16 @@
 -- There are no more blocks than there are centroids. Assumes nothing.
-use Prim.Native.Nat.{ℕ, zero, suc, _≤_, _<_}
+use Prim.Native.Nat.{ℕ, suc, _≤_, _<_}
 use native.Mathlib.Omega.{arith}
-use mathlib.Core.Path.{_≡_, refl, sym, ap, _∙_, subst}
+use mathlib.Core.Path.{_≡_, sym, _∙_, subst}
 use mathlib.Core.Bool.{Bool, true, false, _||_, cond, true≢false}
 use mathlib.Core.List.{List, [], _∷_, map}
 use lib.ListN.{length, length-map}
 use lib.Dec.{ltb, eqb}
-use borrow.Author.Tests.{eq-eqb, ne-eqb}
+use borrow.Author.Tests.{ne-eqb}
 use Rattle.configuration.specs.declared.ClusteringAlgorithm.{ClusteringAlgorithm}
 use Rattle.configuration.specs.declared.ClusteringAlgorithm.the-variants as algorithm
 use Rattle.lists.specs.Lists.{EachOf, firstOr, among, putOnce, rising, withKey}
 use Rattle.lists.specs.Groups.{RisesFrom, Against, less, same, more, against, rising-rises, among-rising, not-among}
-use Rattle.documents.specs.Documents.{Documents}
 use Rattle.sort.specs.Sorted.{sorted}
 use Rattle.assignment.specs.Nearest.{nearest, nearestOrItself, nearly}
 use Rattle.clusters.specs.Clusters.{Assigned, assigned, centroidOf, documentOf, assign, dissolved, reassign, exactly, approximately, survivors, clusters}

@@ -3,19 +3,18 @@
 use Prim.Native.Nat.{ℕ}
 use mathlib.Core.Path.{_≡_, refl}
 use mathlib.Core.Bool.{false}
-use mathlib.Core.List.{List, [], _∷_, map}
+use mathlib.Core.List.{List, [], _∷_}
 use lib.IntN.{pos}
 use lib.Ieee.{Float, fin, binary32, ofBits, add, mul, lt, le}
 use Rattle.configuration.specs.declared.BlockingStrategy.{BlockingStrategy}
 use Rattle.configuration.specs.declared.BlockingStrategy.the-variants.{FixedSize, RandomKmeans}
-use Rattle.configuration.specs.declared.ClusteringAlgorithm.{ClusteringAlgorithm}
 use Rattle.configuration.specs.declared.ClusteringAlgorithm.the-variants as algorithm
 use Rattle.configuration.specs.declared.SummarizationStrategy.{SummarizationStrategy}
 use Rattle.configuration.specs.declared.SummarizationStrategy.the-variants as strategy
 use Rattle.lists.specs.Lists.{putOnce, rising, insertBy, sortedBy}
 use Rattle.float32.specs.Key.{keyOf}
 use Rattle.float32.specs.Order.{atMost}
-use Rattle.documents.specs.Documents.{Term, term, Documents, documents, paired, terms, dot, greaterFirst, falling, largest}
+use Rattle.documents.specs.Documents.{term, Documents, documents, paired, terms, dot, greaterFirst, falling, largest}
 use Rattle.blocking.specs.Blocking.{fixedOffsets}
 use Rattle.assignment.specs.Nearest.{greatest, nearest, nearestOrItself, nearly}
 use Rattle.clusters.specs.Clusters.{dissolved, reassign, exactly, approximately, clusters}

@@ -5,7 +5,6 @@ pub mod Left
 pub mod Shares
 pub mod Blocks
 pub mod Offsets
-pub mod Once
 pub mod Stored
 pub mod Promises
 pub mod Cases

@@ -1,44 +1,35 @@
 -- The block offsets of an accepted list hold, and its numbers of blocks and postings keep their limits. Assumes nothing.
-use Prim.Native.Nat.{ℕ, zero, suc, _+_, _-_, _/_, _≤_, _<_, min}
+use Prim.Native.Nat.{ℕ, zero, suc, _-_, _/_, _≤_, _<_, min}
 use native.Mathlib.Omega.{arith}
 use native.Mathlib.Decide.{ℕ-discrete}
 use mathlib.Core.Path.{_≡_, refl, sym, ap, _∙_, subst}
-use mathlib.Core.Bool.{Bool, true, false, not, _&&_, _||_, true≢false}
-use mathlib.Core.List.{List, [], _∷_, _++_, map, List·Permᴰ}
+use mathlib.Core.Bool.{Bool, true, false, not, _||_, true≢false}
+use mathlib.Core.List.{List, [], _∷_, List·Permᴰ}
 use lib.ListN.{length, length-map}
-use lib.Dec.{leb, ltb, eqb}
+use lib.Dec.{ltb, eqb}
 use lib.Ieee.{Float}
-use borrow.Author.Tests.{eq-eqb, ne-eqb, le-leb, eqb-true, eqb-false, ltb-false, not-false}
-use Rattle.refusal.specs.declared.Verdict.the-variants.{Accepted}
-use Rattle.refusal.specs.First.{firstOf, Faultless, faultless}
+use borrow.Author.Tests.{eq-eqb, ne-eqb, le-leb, eqb-true, ltb-false}
+use Rattle.refusal.specs.First.{Faultless}
 use Rattle.configuration.specs.declared.BlockingStrategy.{BlockingStrategy}
 use Rattle.configuration.specs.declared.BlockingStrategy.the-variants.{FixedSize, RandomKmeans}
 use Rattle.configuration.specs.declared.ClusteringAlgorithm.{ClusteringAlgorithm}
-use Rattle.lists.specs.Lists.{lastOr, joined, offsetsFrom, between, neverFalls}
-use Rattle.lists.specs.Groups.{NeverFalls, offsets-rise, offsets-count, offsets-last}
-use Rattle.blocking.specs.Blocking.{fixedOffsets, centroidCount}
+use Rattle.lists.specs.Lists.{lastOr, joined, offsetsFrom, neverFalls}
+use Rattle.lists.specs.Groups.{offsets-rise, offsets-count, offsets-last}
+use Rattle.lists.specs.Laws.{between-count, never-test}
+use Rattle.blocking.specs.Blocking.{centroidCount}
 use Rattle.blocking.specs.Laws as fixed
 use Rattle.clusters.specs.Clusters.{clusters, documentOf}
+use Rattle.clusters.specs.Promises.{clusters-share}
 use Rattle.quantized_summary.specs.WellFormed.{blocksHold}
 use Rattle.admission.specs.Admission.{wrongCentroids, blockingFaults}
-use Rattle.building.specs.Built.{Input, Blocked, inClusters, assignedIn, blockedIn, blocks, blockDocuments, summaries, built}
-use Rattle.building.specs.Shares.{clusters-share, assigned-documents}
+use Rattle.building.specs.Built.{Input, inClusters, assignedIn, blockedIn, blocks, blockDocuments, summaries}
+use Rattle.building.specs.Shares.{assigned-documents}
 use Rattle.building.specs.Blocks.{blocks-few, blocks-within}
 
 -- ---- offsets that never fall and do not reach past n
 pub record OffsetsHold (n : ℕ) (os : List ℕ) : Type 0 where
   pub never-fall : neverFalls os ≡ true
   pub last : lastOr 0 os ≤ n
-
-never-test : (b : ℕ) (xs : List ℕ) → NeverFalls b xs → neverFalls xs ≡ true
-never-test b [] r = refl
-never-test b (x ∷ []) r = refl
-never-test b (x ∷ y ∷ xs) r = let i = never-test x (y ∷ xs) (r .1) in rw (le-leb x y (r .1 .0), i)
-
-between-count : {A : Type 0} (os : List ℕ) (xs : List A) → length (between os xs) ≡ length os - 1
-between-count [] xs = refl
-between-count (a ∷ []) xs = refl
-between-count (a ∷ b ∷ os) xs = let i = between-count (b ∷ os) xs in ap suc i ∙ omega arith
 
 holds-test : (n : ℕ) (os : List ℕ) → OffsetsHold n os → blocksHold n (length os - 1) os ≡ true
 unfolding blocksHold

@@ -2,16 +2,17 @@
 -- summarized. Blocks share out the list by Shares. Assumes nothing.
 use Prim.Native.Nat.{ℕ, _≤_, _<_}
 use native.Mathlib.Omega.{arith}
-use mathlib.Core.Path.{_≡_, refl, sym, ap, _∙_, subst}
-use mathlib.Core.Bool.{Bool, true, false, not, _&&_, _||_, true≢false}
-use mathlib.Core.List.{List, [], _∷_, _++_, map}
+use mathlib.Core.Path.{_≡_, sym, subst}
+use mathlib.Core.Bool.{true}
+use mathlib.Core.List.{List}
 use lib.ListN.{length, getD, length-map}
-use lib.Dec.{T, ltb, eqb}
-use lib.Ieee.{Float, nan, le}
+use lib.Dec.{T}
+use lib.Ieee.{nan, le}
 use borrow.Author.Tests.{ltb-false, not-false}
 use Rattle.refusal.specs.declared.Verdict.the-variants.{Accepted}
-use Rattle.refusal.specs.First.{Test, firstOf, Faultless, faultless}
-use Rattle.lists.specs.Lists.{EachOf, every}
+use Rattle.refusal.specs.First.{Faultless, faultless, faultless-both}
+use Rattle.lists.specs.Lists.{EachOf}
+use Rattle.lists.specs.Laws.{or-left, every-front}
 use Rattle.documents.specs.Documents.{Term, packed}
 use Rattle.documents.specs.Checks.{documentsHold, termsHoldBelow}
 use Rattle.documents.specs.Documents.{terms}
@@ -21,27 +22,11 @@ use Rattle.quantizing.specs.Promises.{value-drift}
 use Rattle.quantized_summary.specs.WellFormed.{wellFormed}
 use Rattle.layout.specs.Layouts.{values, layout}
 use Rattle.layout.specs.Passes.{Storable, built-passes}
-use Rattle.admission.specs.Admission.{centroidsUsed, blockingFaults, inputTests}
-use Rattle.building.specs.Built.{Input, Built, blocks, summaries, built}
+use Rattle.admission.specs.Admission.{centroidsUsed, inputTests}
+use Rattle.building.specs.Built.{Input, blocks, summaries, built}
 use Rattle.building.specs.Building.{Lent, roomTests, tests, verdictOf}
 use Rattle.building.specs.Offsets.{blocks-hold, as-many, few-blocks}
 use Rattle.building.specs.Stored.{summaries-storable}
-
-faultless-both : (a b : List Test) → Faultless (a ++ b) → Faultless a × Faultless b
-faultless-both [] b f = (tt, f)
-faultless-both (t ∷ a) b f = let r = faultless-both a b (f .1) in ((f .0, r .0), r .1)
-
-or-left : (a b : Bool) → (a || b) ≡ false → a ≡ false
-or-left true b h = h
-or-left false b h = refl
-
-every-front : {A : Type 0} (p : A → Bool) (a b : List A) → every p (a ++ b) ≡ true → every p a ≡ true
-every-front p [] b h = refl
-every-front p (x ∷ a) b h = go (p x) h (every-front p a b)
-  where
-    go : (t : Bool) → (t && every p (a ++ b)) ≡ true → (every p (a ++ b) ≡ true → every p a ≡ true) → (t && every p a) ≡ true
-    go true h f = f h
-    go false h f = h
 
 -- a slice of u32 and one of f32 hold nothing else
 module _ (g : Input) (lent : Lent) (narrow : (k : ℕ) → getD (g .documents .components) k 0 < 4294967296) (fs : F32s (g .documents .values)) (accepted : verdictOf g lent ≡ Accepted) where

@@ -1,26 +1,21 @@
 -- Blocks share out the list: each listed posting lies in one block. Assumes nothing.
 use Prim.Native.Nat.{ℕ, suc, _/_, _<_}
 use mathlib.Core.Path.{_≡_, refl, sym, ap, _∙_, subst}
-use mathlib.Core.Bool.{Bool, true, false, cond}
 use mathlib.Core.List.{List, [], _∷_, map, List·Permᴰ, Permᴰ·append-left, Permᴰ·append-right}
 use lib.ListN.{length}
-use lib.Dec.{leb}
 use lib.Ieee.{Float}
-use Rattle.configuration.specs.declared.BlockingStrategy.{BlockingStrategy}
 use Rattle.configuration.specs.declared.BlockingStrategy.the-variants.{FixedSize, RandomKmeans}
 use Rattle.configuration.specs.declared.ClusteringAlgorithm.{ClusteringAlgorithm}
 use Rattle.configuration.specs.declared.ClusteringAlgorithm.the-variants as algorithm
-use Rattle.lists.specs.Lists.{joined, between, firstOr, rising, withKey, groups, sortedBy}
-use Rattle.lists.specs.Groups.{noLater, groups-sort, joined-map, between-offsets}
-use Rattle.lists.specs.Sorted.{sort-permutes, map-permutes}
+use Rattle.lists.specs.Lists.{joined, between, firstOr}
+use Rattle.lists.specs.Groups.{between-offsets}
 use Rattle.documents.specs.Documents.{Documents}
-use Rattle.blocking.specs.Blocking.{fixedOffsets}
 use Rattle.blocking.specs.Laws.{no-blocks}
 use Rattle.blocking.specs.Shares as fixed
-use Rattle.sort.specs.Sorted.{sorted}
 use Rattle.assignment.specs.Nearest.{nearest, nearestOrItself, nearly}
-use Rattle.clusters.specs.Clusters.{Assigned, assigned, centroidOf, documentOf, assign, dissolved, reassign, exactly, approximately, survivors, clusters}
-use Rattle.building.specs.Built.{Input, Blocked, blocked, inClusters, assignedIn, blockedIn, blocks, blockDocuments}
+use Rattle.clusters.specs.Clusters.{documentOf, assign, exactly, approximately, survivors, clusters}
+use Rattle.clusters.specs.Promises.{assign-documents, reassign-documents, clusters-share}
+use Rattle.building.specs.Built.{Input, inClusters, assignedIn, blockedIn, blocks, blockDocuments}
 
 -- ---- clusters
 map-map : {A B C : Type 0} (f : B → C) (g : A → B) (l : List A) → map f (map g l) ≡ map (λ x. f (g x)) l
@@ -30,37 +25,6 @@ map-map f g (x ∷ l) = ap (λ z. f (g x) ∷ z) (map-map f g l)
 permutes-joined : {A : Type 0} (f g : ℕ → List A) → ((k : ℕ) → List·Permᴰ (f k) (g k)) → (ks : List ℕ) → List·Permᴰ (joined (map f ks)) (joined (map g ks))
 permutes-joined f g h [] = List·Permᴰ.List·Permᴰ·nil
 permutes-joined f g h (k ∷ ks) = List·Permᴰ.List·Permᴰ·trans (Permᴰ·append-right (joined (map f ks)) (h k)) (Permᴰ·append-left (g k) (permutes-joined f g h ks))
-
--- every document of the pairs stands in one block, as often as it came
-pub clusters-share : (pairs : List Assigned) → List·Permᴰ (joined (clusters pairs)) (map documentOf pairs)
-unfolding clusters
-clusters-share pairs =
-    List·Permᴰ.List·Permᴰ·trans
-    (permutes-joined (λ c. sorted (map documentOf (withKey centroidOf c pairs))) (λ c. map documentOf (withKey centroidOf c pairs)) (λ c. sort-permutes leb (map documentOf (withKey centroidOf c pairs))) (rising (map centroidOf pairs)))
-    (subst (λ l. List·Permᴰ l (map documentOf pairs)) (sym gather) (map-permutes documentOf (sort-permutes (noLater centroidOf) pairs)))
-  where
-    gather : joined (map (λ c. map documentOf (withKey centroidOf c pairs)) (rising (map centroidOf pairs))) ≡ map documentOf (sortedBy (noLater centroidOf) pairs)
-    gather =
-        ap joined (sym (map-map (map documentOf) (λ c. withKey centroidOf c pairs) (rising (map centroidOf pairs))))
-        ∙ joined-map documentOf (groups centroidOf pairs)
-        ∙ ap (map documentOf) (groups-sort centroidOf pairs)
-
--- assigning, once or again, changes no document
-assign-documents : (f : ℕ → ℕ) (ids : List ℕ) → map documentOf (assign f ids) ≡ ids
-assign-documents f [] = refl
-assign-documents f (i ∷ ids) = ap (λ l. i ∷ l) (assign-documents f ids)
-
-reassign-documents : (minimum : ℕ) (again : ℕ → ℕ) (pairs : List Assigned) → map documentOf (reassign minimum again pairs) ≡ map documentOf pairs
-unfolding reassign
-reassign-documents minimum again pairs = go pairs
-  where
-    at : (b : Bool) (a : Assigned) → documentOf (cond b (assigned (again (a .document)) (a .document)) a) ≡ a .document
-    at true a = refl
-    at false a = refl
-
-    go : (l : List Assigned) → map documentOf (map (λ a. cond (dissolved minimum pairs (a .centroid)) (assigned (again (a .document)) (a .document)) a) l) ≡ map documentOf l
-    go [] = refl
-    go (a ∷ l) = let i = go l in let e = at (dissolved minimum pairs (a .centroid)) a in cc
 
 exact-documents : (d : Documents) (minimum : ℕ) (centroids ids : List ℕ) → map documentOf (exactly d minimum centroids ids) ≡ ids
 unfolding exactly

@@ -1,18 +1,19 @@
 -- What the summaries of an accepted list hold: rising components, and values that are f32 in bound, one at least. Assumes nothing.
-use Prim.Native.Nat.{ℕ, zero, suc, _+_, _-_, _≤_, _<_}
+use Prim.Native.Nat.{ℕ, zero, suc, _+_, _-_, _<_}
 use native.Mathlib.Omega.{arith}
-use mathlib.Core.Path.{_≡_, refl, sym, ap, _∙_, subst}
+use mathlib.Core.Path.{_≡_, refl, sym, subst}
 use mathlib.Core.Bool.{Bool, true, false, not, _&&_, cond, true≢false}
-use mathlib.Core.List.{List, [], _∷_, _++_, map, foldl, List·Permᴰ, Permᴰ·symm}
-use lib.ListN.{length, getD, take, drop}
+use mathlib.Core.List.{List, [], _∷_, _++_, map, foldl, Permᴰ·symm}
+use lib.ListN.{length, getD, drop}
 use lib.Dec.{T, ltb, eqb}
-use lib.Ieee.{Float, nan, binary32, fits, lt}
+use lib.Ieee.{Float, binary32, fits, lt}
 use borrow.Author.Tests.{ne-eqb, eqb-false}
 use Rattle.configuration.specs.declared.SummarizationStrategy.{SummarizationStrategy}
 use Rattle.configuration.specs.declared.BlockingStrategy.{BlockingStrategy}
 use Rattle.configuration.specs.declared.BlockingStrategy.the-variants.{FixedSize, RandomKmeans}
-use Rattle.lists.specs.Lists.{EachOf, every, those, among, joined, offsetsFrom, between, part, keys, strictlyRise, sortedBy}
+use Rattle.lists.specs.Lists.{EachOf, every, those, among, joined, between, keys, strictlyRise}
 use Rattle.lists.specs.Sorted.{each-sortedBy}
+use Rattle.lists.specs.Laws.{and-right, every-each}
 use Rattle.float32.specs.Bound.{inBound}
 use Rattle.documents.specs.Documents.{Term, term, Documents, terms, valuesAt, greaterFirst, falling}
 use Rattle.documents.specs.Checks.{termsHold, termsHoldBelow, documentsHold}
@@ -21,16 +22,17 @@ use Rattle.block_maximum.specs.Maximum.{blockTerms, maximum, maxima, blockMaxim
 use Rattle.summaries.specs.Summaries.{kept, lower, summary}
 use Rattle.summaries.specs.Each.{each-permuted, each-take, each-drop}
 use Rattle.summaries.specs.Whole.{block-held}
+use Rattle.summaries.specs.Promises.{kept-first}
+use Rattle.summaries.specs.Once.{summary-rises}
 use Rattle.quantizing.specs.Demand3.{F32s}
-use Rattle.quantizing.specs.Accepted.{Quantizable}
 use Rattle.layout.specs.Layouts.{values}
 use Rattle.layout.specs.Passes.{Storable}
 use Rattle.clusters.specs.Clusters.{clusters}
 use Rattle.clusters.specs.Ranks.{Among, rising-among}
 use Rattle.clusters.specs.Members.{each-among}
-use Rattle.building.specs.Once.{kept-first, summary-rises}
+use Rattle.clusters.specs.Promises.{clusters-share}
 use Rattle.building.specs.Built.{Input, inClusters, assignedIn, blockedIn, blocks, blockDocuments, summaries}
-use Rattle.building.specs.Shares.{clusters-share, assigned-documents}
+use Rattle.building.specs.Shares.{assigned-documents}
 
 -- ---- what holds of each
 module _ {A : Type 0} (P : A → Type 0) where
@@ -50,14 +52,6 @@ module _ {A : Type 0} (P : A → Type 0) where
       go : (b : Bool) → EachOf P (those p l) → EachOf P (cond b (x ∷ those p l) (those p l))
       go true i = (e .0, i)
       go false i = i
-
-pub every-each : {A : Type 0} (p : A → Bool) (l : List A) → every p l ≡ true → EachOf (λ x. p x ≡ true) l
-every-each p [] h = tt
-every-each p (x ∷ l) h = go (p x) refl h (every-each p l)
-  where
-    go : (b : Bool) → p x ≡ b → (b && every p l) ≡ true → (every p l ≡ true → EachOf (λ x. p x ≡ true) l) → (p x ≡ true) × EachOf (λ x. p x ≡ true) l
-    go true e h f = (e, f h)
-    go false e h f = absurd (true≢false (sym h))
 
 -- ---- each document of a block is listed
 in-clusters-each : (P : ℕ → Type 0) (bs : List (List ℕ)) → EachOf P (joined bs) → EachOf P ((inClusters bs) .documents)
@@ -120,10 +114,6 @@ summary-good s d block e =
     let ts = blockMaximum d block in
     let k = kept-first s ts in
     each-sortedBy lower GoodTerm (kept s ts) (subst (EachOf GoodTerm) (sym (k .1)) (each-take GoodTerm (k .0) (falling ts) (each-sortedBy greaterFirst GoodTerm ts (maxima-good (blockTerms d block) e))))
-
-and-right : (a b : Bool) → (a && b) ≡ true → b ≡ true
-and-right true b h = h
-and-right false b h = absurd (true≢false (sym h))
 
 and-left : (a b : Bool) → (a && b) ≡ true → a ≡ true
 and-left true b h = refl

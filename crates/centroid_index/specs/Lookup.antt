@@ -2,17 +2,16 @@
 use Prim.Native.Nat.{ℕ, zero, suc, _+_, _-_, _≤_, _<_}
 use native.Mathlib.Omega.{arith}
 use native.Mathlib.Decide.{decLt}
-use mathlib.Core.Path.{_≡_, refl, sym, ap, _∙_, subst}
-use mathlib.Core.Bool.{Bool, true, false, cond}
+use mathlib.Core.Path.{_≡_, refl, sym, ap, _∙_}
 use mathlib.Core.List.{List, [], _∷_, _++_, map, append-assoc, zipWith}
 use lib.ListN.{length, getD, take, drop, length-append, length-map, List·getD-eq-default, List·getD-map}
-use lib.Seq.{take-append-seam, drop-append-seam, take-nil}
-use lib.Dec.{eqb}
+use lib.Seq.{take-append-seam, drop-append-seam}
 use borrow.Author.Tests.{ne-eqb}
 use lib.Ieee.{Float}
-use Rattle.lists.specs.Lists.{EachOf, those, joined, offsetsFrom, part, from, withKey}
+use Rattle.lists.specs.Lists.{EachOf, joined, offsetsFrom, part, from, withKey}
 use Rattle.lists.specs.Groups.{offsets-count, offsets-map, joined-map}
-use Rattle.documents.specs.Documents.{Term, term, paired, Documents, documents, terms}
+use Rattle.lists.specs.Laws.{from-length, map-at}
+use Rattle.documents.specs.Documents.{term, paired, Documents, documents, terms}
 use Rattle.counting.specs.Counting.{bins}
 use Rattle.centroid_index.specs.Index.{Entry, slotOf, componentOf, weightOf, entries, indexOf}
 use Rattle.centroid_index.specs.Scores.{IndexFor}
@@ -57,15 +56,6 @@ from-at : (a n k : ℕ) → k < n → getD (from a n) k 0 ≡ a + k
 from-at a zero k h = absurd (omega arith)
 from-at a (suc n) zero h = omega arith
 from-at a (suc n) (suc k) h = from-at (suc a) n k (omega arith) ∙ omega arith
-
-from-length : (a n : ℕ) → length (from a n) ≡ n
-from-length a zero = refl
-from-length a (suc n) = ap suc (from-length (suc a) n)
-
-map-at : {A B : Type 0} (f : A → B) (l : List A) (k : ℕ) (d : A) (e : B) → k < length l → getD (map f l) k e ≡ f (getD l k d)
-map-at f [] k d e h = absurd (omega arith)
-map-at f (x ∷ l) zero d e h = refl
-map-at f (x ∷ l) (suc k) d e h = map-at f l k d e (omega arith)
 
 module _ {A : Type 0} (key : A → ℕ) where
   none-above : (n k : ℕ) (xs : List A) → EachOf (λ x. key x < n) xs → n ≤ k → withKey key k xs ≡ []

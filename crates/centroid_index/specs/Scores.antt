@@ -1,20 +1,18 @@
 -- Scores through the index are the dot products with the centroids. Assumes nothing.
-use Prim.Native.Nat.{ℕ, zero, suc, _+_, _-_, _≤_, _<_}
+use Prim.Native.Nat.{ℕ, suc, _+_, _-_}
 use native.Mathlib.Omega.{arith}
-use mathlib.Core.Path.{_≡_, refl, sym, ap, _∙_, subst}
+use mathlib.Core.Path.{_≡_, refl, sym, ap, _∙_}
 use mathlib.Core.Bool.{Bool, true, false, cond}
-use mathlib.Core.List.{List, [], _∷_, _++_, map, foldl, foldl-append, append-assoc, map-append, zipWith}
-use lib.ListN.{length, getD, set, replicate, length-append}
+use mathlib.Core.List.{List, [], _∷_, _++_, map, foldl, foldl-append, append-assoc, map-append}
+use lib.ListN.{length, set, replicate, length-append}
 use lib.Seq.{set-at, getD-at}
 use lib.Dec.{eqb}
-use borrow.Author.Tests.{eqb-true}
 use lib.IntN.{pos}
 use lib.Ieee.{Float, nan, fin, binary32, add, mul}
-use Rattle.lists.specs.Lists.{EachOf, those, joined, offsetsFrom, between, part, from, withKey}
+use Rattle.lists.specs.Lists.{withKey}
 use Rattle.lists.specs.Groups.{those-append}
-use Rattle.documents.specs.Documents.{Term, term, paired, Documents, documents, start, size, terms, sum, valuesAt, products, dot}
-use Rattle.counting.specs.Counting.{bins}
-use Rattle.centroid_index.specs.Index.{Entry, entry, slotOf, componentOf, weightOf, entriesFrom, entries, indexOf, addEntry, addTerm, addTerms}
+use Rattle.documents.specs.Documents.{Term, term, Documents, terms, valuesAt, products, dot}
+use Rattle.centroid_index.specs.Index.{entry, slotOf, componentOf, weightOf, entriesFrom, entries, addEntry, addTerms}
 
 -- ---- sums by a value: the products of weights with it are added one after another
 abbrev pub plus : Float → Float → Float → Float

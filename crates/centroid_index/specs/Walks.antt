@@ -1,13 +1,13 @@
 -- Terms in two slices, walked from a place on. Assumes nothing.
-use Prim.Native.Nat.{ℕ, suc, _+_, _-_, _≤_, _<_, min}
+use Prim.Native.Nat.{ℕ, _+_, _-_, _≤_, _<_, min}
 use native.Mathlib.Omega.{arith}
-use mathlib.Core.Path.{_≡_, refl, sym, ap, _∙_}
-use mathlib.Core.List.{List, [], _∷_, zipWith}
+use mathlib.Core.Path.{_≡_, ap}
+use mathlib.Core.List.{List, [], _∷_}
 use lib.ListN.{length, getD, drop}
 use lib.Ieee.{Float}
 use Rattle.lists.specs.Lists.{part}
 use Rattle.documents.specs.declared.TermPlaces.{TermPlaces}
-use Rattle.documents.specs.Documents.{Term, term, paired, Documents, terms}
+use Rattle.documents.specs.Documents.{term, paired, Documents, terms}
 use Rattle.documents.specs.Answers.{placesOf}
 use Rattle.documents.specs.Places.{terms-at, places-order, places-within}
 use Rattle.counting.specs.Loops.{zip-step, zip-left, zip-right}

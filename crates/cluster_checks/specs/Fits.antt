@@ -5,19 +5,17 @@ use native.Mathlib.Numerals.{add-one}
 use mathlib.Core.Path.{_≡_, refl, sym, ap, _∙_}
 use mathlib.Core.Bool.{Bool, true, false}
 use mathlib.Core.List.{List, map}
-use lib.ListN.{length, getD, drop, length-append, length-map, length-take, length-drop, drop-of-length-le}
+use lib.ListN.{length, getD, drop, length-append, length-map, drop-of-length-le}
 use lib.Seq.{drop-cons}
 use lib.Dec.{leb}
 use borrow.Author.Tests.{le-leb, lt-leb, leb-true, leb-false}
 use Rattle.lists.specs.Lists.{part}
+use Rattle.lists.specs.Laws.{part-length}
 use Rattle.documents.specs.declared.TermPlaces.{TermPlaces}
 use Rattle.documents.specs.Documents.{Documents, terms}
 use Rattle.documents.specs.Places.{paired-count}
 use Rattle.centroid_index.specs.Index.{entry, entriesFrom}
 use Rattle.centroid_index.specs.Walks.{Cut}
-
-part-length : {A : Type 0} (s n : ℕ) (l : List A) → s + n ≤ length l → length (part s n l) ≡ n
-part-length s n l h = length-take n (drop s l) ∙ let e = length-drop s l in omega arith
 
 module _ (d : Documents) (i : ℕ) (p : TermPlaces) (c : Cut d i p) where
   -- a document's places hold its terms, all of them

@@ -1,7 +1,7 @@
 -- What a clustering answers and leaves in what it was lent. Document 01, "Clusters" and "Numbered refusals"; its tests stand in cluster_checks.
 use Prim.Native.Nat.{ℕ, zero, suc, _-_}
 use mathlib.Core.Bool.{false}
-use mathlib.Core.List.{List, [], _∷_, _++_}
+use mathlib.Core.List.{List, [], _++_}
 use lib.ListN.{length, replicate}
 use lib.Seq.{sets}
 use lib.IntN.{pos}

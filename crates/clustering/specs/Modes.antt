@@ -1,10 +1,10 @@
 -- What both modes have in common: a function that gives each document its centroid, by rank. Assumes nothing.
 use Prim.Native.Nat.{ℕ, zero, suc, _≤_, _<_, _^_, min}
 use native.Mathlib.Omega.{arith}
-use mathlib.Core.Path.{_≡_, refl, sym, ap, _∙_}
+use mathlib.Core.Path.{_≡_, sym, ap, _∙_}
 use mathlib.Core.List.{List, [], _∷_, _++_, map}
 use lib.ListN.{length, take, drop, length-take}
-use lib.Seq.{take-all, take-at, take-take}
+use lib.Seq.{take-all, take-at}
 use Rattle.configuration.specs.declared.ClusteringAlgorithm.{ClusteringAlgorithm}
 use Rattle.configuration.specs.declared.ClusteringAlgorithm.the-variants as algorithm
 use Rattle.documents.specs.Documents.{Documents, terms}

@@ -2,13 +2,14 @@
 use Prim.Native.Nat.{ℕ, suc, _+_, _-_, _≤_, _<_, _^_}
 use native.Mathlib.Omega.{arith}
 use mathlib.Core.Path.{_≡_, refl, sym, ap, _∙_, subst}
-use mathlib.Core.Bool.{Bool, true, false, not, _&&_, _||_, true≢false}
+use mathlib.Core.Bool.{Bool, true, false, _&&_, _||_, true≢false}
 use mathlib.Core.List.{List, [], _∷_, _++_, map}
 use lib.ListN.{length}
 use lib.Dec.{leb, ltb, eqb}
 use borrow.Author.Tests.{leb-true, ltb-true, eqb-true, eqb-false, lt-ltb, not-false}
 use Rattle.float32.specs.Bound.{inBound}
 use Rattle.lists.specs.Lists.{EachOf, every, among, strictlyRise}
+use Rattle.lists.specs.Laws.{both}
 use Rattle.refusal.specs.declared.Verdict.the-variants.{Accepted}
 use Rattle.refusal.specs.First.{firstOf, faultless}
 use Rattle.documents.specs.Documents.{Term, Documents, terms}
@@ -20,10 +21,6 @@ use Rattle.clusters.specs.Ordered.{among-sorted}
 use Rattle.clusters.specs.Ranks.{Among}
 use Rattle.passes.specs.Room.{Room}
 use Rattle.cluster_checks.specs.Tests.{roomyBut, roomy, clusterTests}
-
-both : (a b : Bool) → (a && b) ≡ true → (a ≡ true) × (b ≡ true)
-both true b e = (refl, e)
-both false b e = absurd (true≢false (sym e))
 
 -- ---- components stay below the dimension
 each-below : (dimension s : ℕ) (ts : List Term) → every (λ t. ltb (t .component) dimension) ts ≡ true → EachOf (λ e. componentOf e < dimension) (map (entry s) ts)

@@ -1,18 +1,17 @@
 -- Clusters of documents that a function assigns: by their sorted list, and by ranks. Assumes nothing.
-use Prim.Native.Nat.{ℕ, zero, suc, _+_, _≤_, _<_}
+use Prim.Native.Nat.{ℕ, _+_, _≤_, _<_}
 use native.Mathlib.Omega.{arith}
 use mathlib.Core.Path.{_≡_, refl, sym, ap, _∙_}
-use mathlib.Core.Bool.{Bool, true, false, _||_, _&&_, not, cond}
+use mathlib.Core.Bool.{Bool, true, false, _||_, cond}
 use mathlib.Core.List.{List, [], _∷_, _++_, map, map-map}
 use lib.ListN.{length, length-map}
 use lib.Dec.{eqb, leb}
-use borrow.Author.Tests.{eq-eqb, ne-eqb}
 use Rattle.sort.specs.Sorted.{insert, sorted}
 use Rattle.sort.specs.Laws.{length-sorted}
-use Rattle.lists.specs.Lists.{EachOf, those, every, joined, among, from, rising, withKey, sortedBy, insertBy}
-use Rattle.lists.specs.Groups.{Against, less, same, more, against}
+use Rattle.lists.specs.Lists.{EachOf, those, joined, among, from, rising, withKey, sortedBy, insertBy}
+use Rattle.lists.specs.Laws.{eqb-swap, those-same}
 use Rattle.counting.specs.Grouping.{nonempty}
-use Rattle.clusters.specs.Clusters.{Assigned, assigned, centroidOf, documentOf, assign, small, dissolved, reassign, clusters}
+use Rattle.clusters.specs.Clusters.{assigned, centroidOf, documentOf, assign, small, dissolved, reassign, clusters}
 use Rattle.clusters.specs.Ordered.{those-sorted}
 use Rattle.clusters.specs.Ranks.{rankOf, Among, rank-eqb, rank-below, rising-rank, rising-among, rising-those}
 
@@ -87,14 +86,6 @@ unfolding sortedBy
 nonempty-sorted [] = refl
 nonempty-sorted (x ∷ l) = nonempty-insert x (sorted l)
 
-eqb-swap : (a b : ℕ) → eqb a b ≡ eqb b a
-eqb-swap a b = go (against a b)
-  where
-    go : Against a b → eqb a b ≡ eqb b a
-    go (less p) = ne-eqb a b (λ e. omega arith) ∙ sym (ne-eqb b a (λ e. omega arith))
-    go (same p) = eq-eqb a b p ∙ sym (eq-eqb b a (sym p))
-    go (more p) = ne-eqb a b (λ e. omega arith) ∙ sym (ne-eqb b a (λ e. omega arith))
-
 nonempty-those : (r : ℕ → ℕ) (k : ℕ) (ids : List ℕ) → nonempty (those (λ i. eqb (r i) k) ids) ≡ among k (map r ids)
 nonempty-those r k [] = refl
 nonempty-those r k (i ∷ ids) = go (eqb (r i) k) (nonempty-those r k ids) ∙ ap (λ b. b || among k (map r ids)) (eqb-swap (r i) k)
@@ -102,10 +93,6 @@ nonempty-those r k (i ∷ ids) = go (eqb (r i) k) (nonempty-those r k ids) ∙ a
     go : (b : Bool) → nonempty (those (λ i. eqb (r i) k) ids) ≡ among k (map r ids) → nonempty (cond b (i ∷ those (λ i. eqb (r i) k) ids) (those (λ i. eqb (r i) k) ids)) ≡ (b || among k (map r ids))
     go true e = refl
     go false e = e
-
-those-same : (p q : ℕ → Bool) → ((i : ℕ) → p i ≡ q i) → (l : List ℕ) → those p l ≡ those q l
-those-same p q e [] = refl
-those-same p q e (i ∷ l) = let j = those-same p q e l in rw (e i, j)
 
 map-same : (F G : ℕ → List ℕ) (P : ℕ → Type 0) → ((c : ℕ) → P c → F c ≡ G c) → (l : List ℕ) → EachOf P l → map F l ≡ map G l
 map-same F G P e [] a = refl

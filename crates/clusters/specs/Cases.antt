@@ -1,9 +1,8 @@
 -- Worked cases of both modes, by computation: a listed centroid takes itself, ties, repeated ids, documents without terms, dissolved groups,
 -- survivors that drew nothing, none that survive, an empty list. Assumes nothing.
-use Prim.Native.Nat.{ℕ}
 use mathlib.Core.Path.{_≡_, refl}
-use mathlib.Core.List.{List, [], _∷_, map, zipWith}
-use lib.Ieee.{Float, binary32, ofBits, add, mul, lt, eq, isNan}
+use mathlib.Core.List.{[], _∷_, map, zipWith}
+use lib.Ieee.{binary32, ofBits, add, mul, lt, eq, isNan}
 use Rattle.float32.specs.Order.{atMost}
 use Rattle.lists.specs.Lists.{putOnce, rising, insertBy, sortedBy}
 use Rattle.documents.specs.Documents.{Documents, documents, paired, terms, dot, greaterFirst, falling, largest}

@@ -1,28 +1,20 @@
 -- A document is taken by one of the centroids. Assumes nothing.
-use Prim.Native.Nat.{ℕ, zero, suc, _<_}
+use Prim.Native.Nat.{ℕ, _<_}
 use native.Mathlib.Omega.{arith}
-use mathlib.Core.Path.{_≡_, refl, sym, ap, _∙_}
+use mathlib.Core.Path.{_≡_, refl, ap}
 use mathlib.Core.Bool.{Bool, true, false, _||_, cond}
 use mathlib.Core.List.{List, [], _∷_, map}
 use lib.ListN.{length}
 use lib.Dec.{eqb}
-use lib.Ieee.{Float}
 use borrow.Author.Tests.{eq-eqb}
 use Rattle.lists.specs.Lists.{EachOf, those, firstOr, lastOr, among}
-use Rattle.documents.specs.Documents.{Term, Documents, terms, dot, largest}
+use Rattle.documents.specs.Documents.{Term, Documents, terms, largest}
+use Rattle.documents.specs.Bounds.{each-those}
 use Rattle.assignment.specs.declared.Candidate.{Candidate}
-use Rattle.assignment.specs.Nearest.{candidate, centroidOf, candidates, greatest, aboveZero, nearest, nearestOrItself, nearly}
+use Rattle.assignment.specs.Nearest.{centroidOf, candidates, greatest, aboveZero, nearest, nearestOrItself, nearly}
 use Rattle.clusters.specs.Ranks.{Among}
 
 -- ---- a property of each
-each-those : {A : Type 0} (P : A → Type 0) (p : A → Bool) (l : List A) → EachOf P l → EachOf P (those p l)
-each-those P p [] e = tt
-each-those P p (x ∷ l) e = go (p x) (each-those P p l (e .1))
-  where
-    go : (b : Bool) → EachOf P (those p l) → EachOf P (cond b (x ∷ those p l) (those p l))
-    go true i = (e .0, i)
-    go false i = i
-
 first-has : (P : ℕ → Type 0) (d : ℕ) (l : List ℕ) → P d → EachOf P l → P (firstOr d l)
 first-has P d [] p e = p
 first-has P d (x ∷ l) p e = e .0

@@ -52,11 +52,11 @@ one-block-each pairs = (go (rising (map centroidOf pairs)), rising-rises (map ce
     go (c ∷ cs) = ap Prim.Native.Nat.suc (go cs)
 
 -- ---- assigning, once or again, changes no document
-assign-documents : (f : ℕ → ℕ) (ids : List ℕ) → map documentOf (assign f ids) ≡ ids
+pub assign-documents : (f : ℕ → ℕ) (ids : List ℕ) → map documentOf (assign f ids) ≡ ids
 assign-documents f [] = refl
 assign-documents f (i ∷ ids) = ap (λ l. i ∷ l) (assign-documents f ids)
 
-reassign-documents : (minimum : ℕ) (again : ℕ → ℕ) (pairs : List Assigned) → map documentOf (reassign minimum again pairs) ≡ map documentOf pairs
+pub reassign-documents : (minimum : ℕ) (again : ℕ → ℕ) (pairs : List Assigned) → map documentOf (reassign minimum again pairs) ≡ map documentOf pairs
 unfolding reassign
 reassign-documents minimum again pairs = go pairs
   where

@@ -1,6 +1,6 @@
 -- Where a document's terms are.
 use Prim.Native.Nat.{ℕ, _+_, min}
-use mathlib.Core.List.{List, [], _∷_}
+use mathlib.Core.List.{List, []}
 use Rattle.documents.specs.declared.DocumentRange.{DocumentRange}
 use Rattle.documents.specs.declared.TermPlaces.{TermPlaces}
 use Rattle.documents.specs.Documents.{documents, start, size}

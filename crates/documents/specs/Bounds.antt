@@ -15,9 +15,9 @@ use Rattle.float32.specs.BoundLaws.{in-bound-bounded}
 use Rattle.float32.specs.Sums.{Within, product-within}
 use Rattle.float32.specs.LongSums.{score-no-nan, score-finite}
 use Rattle.lists.specs.Lists.{EachOf, every, those, withKey, strictlyRise}
+use Rattle.lists.specs.Laws.{both}
 use Rattle.documents.specs.Documents.{Term, valuesAt, products, dot}
 use Rattle.documents.specs.Checks.{termsHold}
-use Rattle.documents.specs.Laws.{both}
 use Rattle.documents.specs.TermKeys.{Held}
 
 abbrev pub BoundedTerm : Term → Type 0

@@ -10,14 +10,11 @@ use lib.Ieee.{Float}
 use borrow.Author.Tests.{leb-true, ltb-true, eqb-true, eq-eqb, ne-eqb, lt-ltb, le-leb}
 use Rattle.float32.specs.Bound.{inBound}
 use Rattle.lists.specs.Lists.{every, firstOr, lastOr, neverFalls, strictlyRise}
+use Rattle.lists.specs.Laws.{both}
 use Rattle.documents.specs.Documents.{paired, documents}
 use Rattle.documents.specs.Checks.{offsetsHoldFree, offsetsHold, termsHold, termsHoldBelow, slicesHold, slicesHoldBelow}
 
 -- ---- two tests that both pass
-pub both : (a b : Bool) → (a && b) ≡ true → (a ≡ true) × (b ≡ true)
-both true b e = (refl, e)
-both false b e = absurd (true≢false (sym e))
-
 -- ---- orders, between any two places
 pub never-falls-at : (l : List ℕ) → neverFalls l ≡ true → (i k : ℕ) → i ≤ k → k < length l → getD l i 0 ≤ getD l k 0
 never-falls-at [] h i k p q = let z : ⊥ = omega arith in absurd z

@@ -8,9 +8,10 @@ use lib.Seq.{length-take-le}
 use lib.Dec.{eqb}
 use borrow.Author.Tests.{eqb-true}
 use Rattle.lists.specs.Lists.{lastOr}
+use Rattle.lists.specs.Laws.{both}
 use Rattle.documents.specs.Documents.{paired, Documents, count, start, size, terms}
 use Rattle.documents.specs.Checks.{offsetsHoldFree, offsetsHold}
-use Rattle.documents.specs.Laws.{both, never-falls-at, last-at, free-some, free-never-falls, paired-length}
+use Rattle.documents.specs.Laws.{never-falls-at, last-at, free-some, free-never-falls, paired-length}
 use Rattle.documents.specs.Places.{terms-part}
 
 module _ (d : Documents) (h : offsetsHold d ≡ true) (i : ℕ) (l : i < count (d .offsets)) where

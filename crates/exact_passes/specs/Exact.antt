@@ -27,7 +27,7 @@ use Rattle.clusters.specs.Members.{nearest-among, itself-among, each-among}
 use Rattle.clusters.specs.Search.{at-rank}
 use Rattle.passes.specs.Ranked.{rankIn, listedAt, tookItself, rank-in, listed-in}
 use Rattle.passes.specs.Passes.{over, over-map, over-mapped, cut-take, cut-drop}
-use Rattle.passes.specs.Indexes.{indexDocuments, Indexes, rest, scores-are}
+use Rattle.passes.specs.Indexes.{indexDocuments, rest, scores-are}
 use Rattle.passes.specs.Sizes.{count-is, tally-length, each-same}
 use Rattle.passes.specs.Room.{Room}
 

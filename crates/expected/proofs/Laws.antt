@@ -1,5 +1,5 @@
 -- A buffer held against the expected numbers, place by place. Assumes nothing.
-use Prim.Native.Nat.{ℕ, zero, suc, _+_, _<_, _≤_, compare·suc-suc}
+use Prim.Native.Nat.{ℕ, zero, suc, _+_, _<_, compare·suc-suc}
 use native.Mathlib.Omega.{arith}
 use native.Mathlib.Numerals.{add-one}
 use mathlib.Core.Path.{_≡_, refl, sym, ap, _∙_}
@@ -16,11 +16,6 @@ pub any-default : {A : Type 0} (l : List A) (i : ℕ) (d e : A) → i < length l
 any-default [] i d e h = let z : ⊥ = omega arith in absurd z
 any-default (x ∷ l) zero d e h = refl
 any-default (x ∷ l) (suc i) d e h = any-default l i d e (omega arith)
-
-pub past-end : {A : Type 0} (l : List A) (i : ℕ) (d : A) → length l ≤ i → d ≡ getD l i d
-past-end [] i d h = refl
-past-end (x ∷ l) zero d h = let z : ⊥ = omega arith in absurd z
-past-end (x ∷ l) (suc i) d h = past-end l i d (omega arith)
 
 and-assoc : (a b c : Bool) → (a && b) && c ≡ a && (b && c)
 and-assoc true b c = refl

@@ -3,11 +3,12 @@ use mathlib.Core.Path.{_≡_, refl, sym, ap, _∙_}
 use Prim.Native.Nat.{ℕ, zero, suc, _+_, _*_, _^_, _≤_, _<_}
 use native.Mathlib.Nat.{mul-one, mul-le-mul-right, le-of-mul-le-mul-right}
 use native.Mathlib.Omega.{arith}
-use mathlib.Core.Bool.{Bool, true, false, _&&_, _||_}
+use mathlib.Core.Bool.{true, false, _&&_, _||_}
 use lib.Dec.{T, leb, ltb, eqb, leb→le, le→leb, lt→ltb, eqb→eq}
 use lib.Ieee.{Float, nan, inf, fin, binary32, up, down, le, neg, ofBits, fits}
 use lib.Ieee.Fits.{down-pos, and-l, and-r, eq→eqb}
 use lib.Ieee.Scale.{finite}
+use Rattle.lists.specs.Laws.{and-true}
 use Rattle.float32.specs.Tests.{is-true, yes, same-test, or-left, and-both, le-test}
 use Rattle.float32.specs.Units.{one, one-pos, mag, value-of}
 use Rattle.float32.specs.Bound.{inBound, Bounded}
@@ -20,10 +21,6 @@ neg-pos : (a b : ℕ) → T (ltb 0 (a + b) || (eqb a b && eqb a 0))
 neg-pos zero zero = tt
 neg-pos zero (suc b) = or-left (ltb 0 (0 + suc b)) (eqb 0 (suc b) && eqb 0 0) (lt→ltb 0 (0 + suc b) (omega arith))
 neg-pos (suc a) b = or-left (ltb 0 (suc a + b)) (eqb (suc a) b && eqb (suc a) 0) (lt→ltb 0 (suc a + b) (omega arith))
-
-and-true : (a : Bool) → (a && true) ≡ a
-and-true true = refl
-and-true false = refl
 
 below-zero : (a b : ℕ) → ((ltb a b || (eqb b a && true)) && (ltb 0 (a + b) || (eqb a b && eqb a 0))) ≡ leb a b
 below-zero a b =

@@ -11,8 +11,9 @@ use mathlib.Core.Logic.{inl, inr}
 use mir.Val.{boolByte}
 use lib.Ieee.Fits.{down-pos, and-r}
 use lib.Ieee.Exact.{HasValue, round-exact}
+use Rattle.lists.specs.Laws.{decide}
 use Rattle.float32.specs.Operations.{add-by, int-value}
-use Rattle.float32.specs.Tests.{decide, yes, no, le-test}
+use Rattle.float32.specs.Tests.{yes, no, le-test}
 use Rattle.float32.specs.RoundingLaws.{nearestByte, div-is}
 
 -- (2M + d) / 2d, by the whole part t of M / d and whether what is left is a half or more

@@ -7,10 +7,11 @@ use native.Mathlib.Omega.{arith}
 use mathlib.Core.Bool.{Bool, true, false, not, _&&_, Bool·beq, _||_}
 use lib.IntN.{pos}
 use lib.Dec.{T, leb, ltb, eqb, ltb→lt, lt→ltb, eqb→eq, lit<}
-use lib.Ieee.Fits.{and-l, and-r, eq→eqb}
+use lib.Ieee.Fits.{and-l, and-r}
 use lib.Ieee.{Float, nan, inf, fin, binary32, lt, eq, below, level, fits, isNan}
 use borrow.Author.Tests.{ltb-true, ltb-false, lt-ltb, le-ltb, le-leb, lt-leb, eqb-true, eqb-false, eq-eqb, ne-eqb}
-use Rattle.float32.specs.Tests.{decide, yes, is-true, is-false, same-test, or-split}
+use Rattle.lists.specs.Laws.{decide, eqb-swap as flipped}
+use Rattle.float32.specs.Tests.{yes, is-true, is-false, or-split}
 use Rattle.float32.specs.Units.{one, one-pos, negative, mag}
 use Rattle.float32.specs.Order.{atMost}
 use Rattle.float32.specs.Heights.{signedAtMost, height, at-most-is, lt-units, eq-units, mag-lt}
@@ -75,9 +76,6 @@ strictly a b = elim (decide (ltb a b)) [
   | inl e ↦ let h = ltb-true a b e in rw (e, lt-leb b a h, ne-eqb a b (less-differs a b h))
   | inr e ↦ rw (e, le-leb b a (ltb-false a b e))
 ]
-
-flipped : (a b : ℕ) → eqb a b ≡ eqb b a
-flipped a b = same-test (eqb a b) (eqb b a) (λ t. eq→eqb (sym (eqb→eq a b t))) (λ t. eq→eqb (sym (eqb→eq b a t)))
 
 both-zero : (a b : ℕ) → ltb 0 (a + b) ≡ not (eqb a b && eqb a 0)
 both-zero a b = elim (decide (eqb a b)) [

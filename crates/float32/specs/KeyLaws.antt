@@ -9,7 +9,8 @@ use lib.Dec.{T, leb, leb→le, le→leb}
 use borrow.Author.Tests.{leb-true, leb-false, le-leb, lt-leb, lt-ltb, le-ltb}
 use lib.Ieee.{Float, nan, inf, fin, binary32, ne, fits, isNan, toBits, ofBits, nanBits}
 use lib.Ieee.Bits.{ofBits-toBits, toBits-ofBits, toBits-lt, ofBits-fits, nanBits-is, nanBits-above}
-use Rattle.float32.specs.Tests.{is-true, is-false, decide}
+use Rattle.lists.specs.Laws.{decide}
+use Rattle.float32.specs.Tests.{is-true, is-false}
 use Rattle.float32.specs.Units.{negative}
 use Rattle.float32.specs.Order.{atMost}
 use Rattle.float32.specs.Heights.{height}

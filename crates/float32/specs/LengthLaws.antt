@@ -15,7 +15,7 @@ use lib.Ieee.Digits.{size-lt, size-le, back}
 use lib.Ieee.Fits.{core, round-is}
 use lib.Ieee.Exact.{HasValue, round-exact}
 use lib.Ieee.Nearest.{closest}
-use Rattle.float32.specs.Tests.{decide}
+use Rattle.lists.specs.Laws.{decide}
 use Rattle.float32.specs.Rounded.{Near, closest-near}
 use Rattle.float32.specs.Operations.{mul-by, add-by, int-value}
 

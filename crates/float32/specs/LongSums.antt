@@ -6,7 +6,7 @@ use native.Mathlib.Omega.{arith}
 use mathlib.Core.Bool.{Bool, true, false, not, _&&_, cond, Bool·beq}
 use mathlib.Core.List.{List, [], _∷_, foldl}
 use lib.IntN.{pos}
-use lib.Dec.{T, leb, ltb, lit<, lit≤}
+use lib.Dec.{T, ltb, lit<, lit≤}
 use lib.Ieee.{Float, fin, binary32, round, sum, add, isNan, size}
 use lib.Ieee.Scale.{finite}
 use Rattle.lists.specs.Lists.{EachOf}

@@ -10,7 +10,7 @@ use lib.Dec.{T, leb→le, le→leb}
 use lib.Ieee.{Float, nan, inf, fin, binary32, fits, toBits, ofBits}
 use lib.Ieee.Bits.{ofBits-toBits}
 use lib.Ieee.Scale.{finite}
-use Rattle.float32.specs.Tests.{le-or-lt}
+use Rattle.lists.specs.Laws.{le-or-lt}
 use Rattle.float32.specs.Units.{one, negative, mag, over, under, Ordered}
 use Rattle.float32.specs.Order.{atMost}
 use Rattle.float32.specs.Heights.{signedAtMost, height, at-most-is, mag-lt}

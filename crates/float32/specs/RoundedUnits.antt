@@ -13,7 +13,7 @@ use lib.Ieee.Fits.{round-is}
 use lib.Ieee.Exact.{HasValue, units-val}
 use lib.Ieee.Nearest.{closest, closest-mono, div-mono}
 use lib.Ieee.Order.{drop, kept}
-use Rattle.float32.specs.Tests.{le-or-lt}
+use Rattle.lists.specs.Laws.{le-or-lt}
 use Rattle.float32.specs.Rounded.{Near, rounded, closest-near, kept-ge, kept-le, half-ulp, relative, relative-whole}
 use Rattle.float32.specs.Units.{one, one-pos, mag, mag-of}
 

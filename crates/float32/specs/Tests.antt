@@ -4,7 +4,7 @@ use mathlib.Core.Logic.{_⊎_, inl, inr}
 use mathlib.Core.Bool.{Bool, true, false, not, _&&_, _||_}
 use Prim.Native.Nat.{ℕ, _≤_, _<_}
 use native.Mathlib.Nat.{le-of-eq, le-of-lt, le-antisymm}
-use lib.Dec.{T, leb, ltb, eqb, leb→le, le→leb, nleb→lt, ltb→lt, nltb→le, eqb→eq, not-T}
+use lib.Dec.{T, leb, ltb, eqb, leb→le, le→leb, ltb→lt, nltb→le, eqb→eq}
 use lib.Ieee.Fits.{eq→eqb}
 
 pub is-true : (b : Bool) → T b → b ≡ true
@@ -26,10 +26,6 @@ same-test true true f g = refl
 same-test true false f g = absurd (f tt)
 same-test false true f g = absurd (g tt)
 same-test false false f g = refl
-
-pub decide : (b : Bool) → (b ≡ true) ⊎ (b ≡ false)
-decide true = inl refl
-decide false = inr refl
 
 pub or-left : (a b : Bool) → T a → T (a || b)
 or-left true b t = tt
@@ -60,6 +56,3 @@ le-test a b = same-test (ltb a b || (eqb a b && true)) (leb a b) (there (ltb a b
     back h true v g k = tt
     back h false true g k = tt
     back h false false g k = absurd (k (le-antisymm h (g tt)))
-
-pub le-or-lt : (a b : ℕ) → (a ≤ b) ⊎ (b < a)
-le-or-lt a b = elim (decide (leb a b)) [ inl e ↦ inl (leb→le a b (yes (leb a b) e)) | inr e ↦ inr (nleb→lt a b (not-T (leb a b) (no (leb a b) e))) ]

@@ -116,7 +116,8 @@ diff-of : (u : Bool) (d x y : ℕ) → x ≤ y → Near (16777216 * (over u d + 
 diff-of true d x y h n = omega arith
 diff-of false d x y h n = (omega arith, (λ t. absurd t))
 
-wide : (o n : ℕ) → n ≤ o * 2 ^ 32 → n ≤ o * 2 ^ 100
+-- what is in bound is far from overflow
+pub wide : (o n : ℕ) → n ≤ o * 2 ^ 32 → n ≤ o * 2 ^ 100
 wide o n h = omega arith
 
 pub sub-units : (x y : Float) → Bounded x → Bounded y → Ordered y x → Diff ((above x + below y) - (above y + below x)) (sub binary32 x y)

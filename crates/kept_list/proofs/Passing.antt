@@ -8,11 +8,12 @@ use lib.ListN.{getD, set}
 use lib.Seq.{getD-set-other, set-set}
 use lib.Dec.{T}
 use lib.Ieee.{Float, nan, binary32, fits, lt, eq}
+use Rattle.lists.specs.Laws.{both}
 use Rattle.float32.specs.Order.{atMost}
 use Rattle.float32.specs.Tests.{yes}
 use Rattle.float32.specs.Comparisons.{lt-by-order, lt-numbers}
 use Rattle.kept_list.specs.declared.Scored.{Scored}
-use Rattle.kept_list.specs.Order.{both, is-not}
+use Rattle.kept_list.specs.Order.{is-not}
 use Rattle.kept_list.specs.Entry.{scored, better, better-is}
 use Rattle.kept_list.specs.Lent.{entryAt}
 use Rattle.kept_list.specs.Fours.{fourBelow, Fitting, fourPassed}

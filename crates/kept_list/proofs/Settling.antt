@@ -3,12 +3,13 @@ use Prim.Native.Nat.{ℕ, zero, suc, _≤_, _<_, min}
 use native.Mathlib.Omega.{arith}
 use mathlib.Core.Path.{_≡_, refl, sym, ap, _∙_}
 use mathlib.Core.Logic.{_⊎_, inl, inr}
-use mathlib.Core.Bool.{Bool, true, false, _&&_, _||_, true≢false}
+use mathlib.Core.Bool.{Bool, true, false, _&&_, _||_}
 use mathlib.Core.List.{List, [], _∷_, _++_}
 use lib.ListN.{length}
 use lib.Ieee.{Float}
 use lib.Dec.{leb, ltb}
 use borrow.Author.Tests.{le-leb, lt-leb, leb-true, leb-false, ltb-true, ltb-false}
+use Rattle.lists.specs.Laws.{neither}
 use Rattle.kept_list.specs.declared.Scored.{Scored}
 use Rattle.kept_list.specs.Keep.{keep}
 use Rattle.kept_list.specs.Pushing.{keep-adds, keep-none, keep-replaces}
@@ -23,10 +24,6 @@ use Rattle.kept_list.specs.Lent.{Lent, lent, entryAt, entries, written, 
 either : (a b : Bool) → (a || b) ≡ true → (a ≡ true) ⊎ (b ≡ true)
 either true b e = inl refl
 either false b e = inr e
-
-neither : (a b : Bool) → (a || b) ≡ false → (a ≡ false) × (b ≡ false)
-neither true b e = absurd (true≢false e)
-neither false b e = (refl, e)
 
 module _ (k n : ℕ) (ps : List ℕ) (xs : List Float) where
   -- what the tests at k find where they let the push go on

@@ -8,8 +8,9 @@ use mathlib.Core.List.{List, [], _∷_, _++_}
 use lib.ListN.{length, take, length-take}
 use lib.Seq.{take-all}
 use Rattle.lists.specs.Lists.{every, insertBy, sortedBy}
+use Rattle.lists.specs.Laws.{both, decide}
 use Rattle.kept_list.specs.Keep.{keep, keepAll, noLater, kBest, inOrder}
-use Rattle.kept_list.specs.Order.{decide, both, Order}
+use Rattle.kept_list.specs.Order.{Order}
 use Rattle.kept_list.specs.Pushing.{put, putAll, putAll-append, take-put}
 use Rattle.kept_list.specs.Sorted.{trans, insert-is-put, sorted-put, sorted-putAll, sorted-take}
 

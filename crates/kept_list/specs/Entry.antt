@@ -7,11 +7,12 @@ use mathlib.Core.Bool.{Bool, true, false, not, _&&_, _||_}
 use lib.Dec.{T, leb, ltb, eqb}
 use borrow.Author.Tests.{ltb-true, ltb-false, eqb-true, eqb-false, lt-ltb, le-ltb, eq-eqb, ne-eqb, leb-true, leb-false}
 use lib.Ieee.{Float, binary32, fits}
+use Rattle.lists.specs.Laws.{both, decide}
 use Rattle.float32.specs.Order.{atMost}
 use Rattle.float32.specs.Key.{keyOf}
 use Rattle.float32.specs.KeyLaws.{key-order, key-inj}
 use Rattle.kept_list.specs.declared.Scored.{Scored}
-use Rattle.kept_list.specs.Order.{Order, decide, both, is-not}
+use Rattle.kept_list.specs.Order.{Order, is-not}
 use Rattle.kept_list.specs.Keep.{level}
 
 abbrev pub scored : ℕ → Float → Scored

@@ -7,8 +7,9 @@ use mathlib.Core.Logic.{_⊎_, inl, inr}
 use mathlib.Core.List.{List, [], _∷_, _++_, List·Memᴰ, List·Memᴰ·head, List·Memᴰ·tail, List·Memᴰ·not-nil, List·Memᴰ·cases-cons, List·Memᴰ·append-cases, Memᴰ·append-right, head-eq-of-cons-eq, tail-eq-of-cons-eq}
 use lib.ListN.{length, take, drop, length-take, take-append-drop}
 use Rattle.lists.specs.Lists.{every, EachOf, insertBy, sortedBy}
+use Rattle.lists.specs.Laws.{both, decide}
 use Rattle.kept_list.specs.Keep.{beats, insertAfter, keep, noLater, kBest, inOrder}
-use Rattle.kept_list.specs.Order.{decide, both, is-not, Order}
+use Rattle.kept_list.specs.Order.{is-not, Order}
 use Rattle.kept_list.specs.Pushing.{keep-replaces}
 use Rattle.kept_list.specs.Best.{sorted-sort}
 

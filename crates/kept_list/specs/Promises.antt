@@ -13,10 +13,11 @@ use Rattle.refusal.specs.declared.Verdict.{Verdict}
 use Rattle.refusal.specs.declared.Verdict.the-variants.{Accepted, Refused}
 use Rattle.refusal.specs.First.{faultless}
 use Rattle.lists.specs.Lists.{every, those, EachOf, sortedBy}
+use Rattle.lists.specs.Laws.{both}
 use Rattle.float32.specs.Order.{atMost}
 use Rattle.kept_list.specs.declared.Scored.{Scored}
 use Rattle.kept_list.specs.Keep.{insertAfter, keep, keepAll, noLater, kBest, inOrder, level}
-use Rattle.kept_list.specs.Order.{Order, both}
+use Rattle.kept_list.specs.Order.{Order}
 use Rattle.kept_list.specs.Pushing.{length-keep, keep-adds, keep-none, keep-replaces}
 use Rattle.kept_list.specs.Sorted.{insert-between, sorted-keep}
 use Rattle.kept_list.specs.Best.{k-best, sorted-sort}

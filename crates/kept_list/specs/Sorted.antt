@@ -6,8 +6,9 @@ use mathlib.Core.Logic.{inl, inr}
 use mathlib.Core.List.{List, [], _∷_, _++_}
 use lib.ListN.{take}
 use Rattle.lists.specs.Lists.{every, those}
+use Rattle.lists.specs.Laws.{both, decide}
 use Rattle.kept_list.specs.Keep.{beats, insertAfter, keep, noLater, inOrder}
-use Rattle.kept_list.specs.Order.{decide, both, is-not, Order}
+use Rattle.kept_list.specs.Order.{is-not, Order}
 use Rattle.kept_list.specs.Pushing.{put, putAll}
 
 module _ {A : Type 0} (better : A → A → Bool) (O : Order better) where

@@ -4,8 +4,9 @@ use mathlib.Core.Path.{_≡_, refl, sym, ap, _∙_}
 use mathlib.Core.Logic.{inl, inr}
 use mathlib.Core.List.{List, [], _∷_, nil≢cons, head-eq-of-cons-eq, tail-eq-of-cons-eq}
 use Rattle.lists.specs.Lists.{every, those, insertBy, sortedBy}
+use Rattle.lists.specs.Laws.{both, decide}
 use Rattle.kept_list.specs.Keep.{noLater, inOrder, level}
-use Rattle.kept_list.specs.Order.{decide, both, is-not, Order}
+use Rattle.kept_list.specs.Order.{is-not, Order}
 
 module _ {A : Type 0} (better : A → A → Bool) (O : Order better) where
   pub level-self : (x : A) → level better x x ≡ true

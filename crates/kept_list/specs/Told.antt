@@ -9,9 +9,9 @@ use lib.Dec.{T}
 use lib.Ieee.{binary32, fits}
 use Rattle.lists.specs.Lists.{every, EachOf, sortedBy}
 use Rattle.lists.specs.Sorted.{each-sortedBy}
+use Rattle.lists.specs.Laws.{both, decide}
 use Rattle.kept_list.specs.declared.Scored.{Scored}
 use Rattle.kept_list.specs.Keep.{beats, insertAfter, keep, noLater, kBest}
-use Rattle.kept_list.specs.Order.{decide, both}
 use Rattle.kept_list.specs.LeftOut.{left-out}
 use Rattle.kept_list.specs.Entry.{better, better-order, level-same}
 use Rattle.kept_list.specs.Push.{isNumber}

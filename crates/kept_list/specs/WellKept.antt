@@ -6,8 +6,8 @@ use lib.ListN.{length}
 use lib.Dec.{leb}
 use borrow.Author.Tests.{le-leb, leb-true}
 use Rattle.lists.specs.Lists.{every}
+use Rattle.lists.specs.Laws.{both}
 use Rattle.kept_list.specs.Keep.{inOrder}
-use Rattle.kept_list.specs.Order.{both}
 use Rattle.kept_list.specs.Entry.{better}
 use Rattle.kept_list.specs.Lent.{Lent, entries, places}
 use Rattle.kept_list.specs.Push.{isNumber, sound, wellKept}

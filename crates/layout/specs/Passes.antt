@@ -8,9 +8,10 @@ use lib.ListN.{length, length-map}
 use lib.Dec.{ltb, eqb}
 use lib.Ieee.{Float}
 use borrow.Author.Tests.{eqb-true, eq-eqb, lt-ltb, le-leb}
-use Rattle.lists.specs.Lists.{EachOf, every, firstOr, lastOr, joined, offsetsFrom, between, among, keys, withKey, neverFalls, strictlyRise}
-use Rattle.lists.specs.Groups.{RisesFrom, NeverFalls, rising-rises, those-append, none-with, not-among, noLater, groups-sort, offsets-rise, offsets-count, offsets-last, offsets-map, between-offsets, joined-map}
+use Rattle.lists.specs.Lists.{EachOf, every, firstOr, lastOr, joined, offsetsFrom, between, among, keys, withKey, strictlyRise}
+use Rattle.lists.specs.Groups.{RisesFrom, rising-rises, those-append, none-with, not-among, noLater, groups-sort, offsets-rise, offsets-count, offsets-last, offsets-map, between-offsets, joined-map}
 use Rattle.lists.specs.Sorted.{each-sortedBy}
+use Rattle.lists.specs.Laws.{never-test}
 use Rattle.documents.specs.Documents.{Term}
 use Rattle.quantizing.specs.Quantizing.{least, stepFor, minimumAllowed, stepAllowed}
 use Rattle.quantizing.specs.Demand3.{F32s}
@@ -48,11 +49,6 @@ rises-test : (b : ℕ) (xs : List ℕ) → RisesFrom b xs → strictlyRise xs �
 rises-test b [] r = refl
 rises-test b (x ∷ []) r = refl
 rises-test b (x ∷ y ∷ xs) r = let i = rises-test (suc x) (y ∷ xs) (r .1) in rw (lt-ltb x y (r .1 .0), i)
-
-never-test : (b : ℕ) (xs : List ℕ) → NeverFalls b xs → neverFalls xs ≡ true
-never-test b [] r = refl
-never-test b (x ∷ []) r = refl
-never-test b (x ∷ y ∷ xs) r = let i = never-test x (y ∷ xs) (r .1) in rw (le-leb x y (r .1 .0), i)
 
 abbrev componentOf : Entry → ℕ
 componentOf e = e .component

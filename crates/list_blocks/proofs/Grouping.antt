@@ -17,8 +17,8 @@ use Rattle.configuration.specs.declared.BlockingStrategy.the-variants as blocki
 use Rattle.configuration.specs.declared.SummarizationStrategy.the-variants as summarization
 use Rattle.lists.specs.Lists.{joined, offsetsFrom, rising}
 use Rattle.lists.specs.Groups.{offsets-count}
+use Rattle.lists.specs.Laws.{both}
 use Rattle.documents.specs.Documents.{Documents}
-use Rattle.documents.specs.Laws.{both}
 use Rattle.centroid_index.specs.Index.{entries}
 use Rattle.clusters.specs.Clusters.{reassign, exactly, approximately, assignedBy, clusters}
 use Rattle.cluster_checks.specs.declared.Rooms.{Rooms}

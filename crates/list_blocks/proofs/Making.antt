@@ -3,7 +3,7 @@ use Prim.Native.Nat.{ℕ, suc, _+_, _/_, _≤_, _<_}
 use native.Mathlib.Omega.{arith}
 use native.Mathlib.Nat.{div-le-self}
 use mathlib.Core.Path.{_≡_, refl, sym, ap, _∙_, subst}
-use mathlib.Core.Bool.{Bool, true, false, not, _&&_, _||_}
+use mathlib.Core.Bool.{Bool, true, false, not, _&&_}
 use mathlib.Core.List.{List, [], _∷_, _++_, map}
 use lib.ListN.{length, replicate, length-append, length-map, length-replicate}
 use lib.IntN.{pos}
@@ -20,9 +20,9 @@ use Rattle.configuration.specs.declared.BlockingStrategy.the-variants.{FixedSiz
 use Rattle.configuration.specs.declared.ClusteringAlgorithm.{ClusteringAlgorithm}
 use Rattle.configuration.specs.declared.SummarizationStrategy.the-variants as summarization
 use Rattle.lists.specs.Lists.{every, joined}
+use Rattle.lists.specs.Laws.{both, or-left, every-append as every-both}
 use Rattle.documents.specs.Documents.{Documents, terms}
 use Rattle.documents.specs.Checks.{termsHoldBelow, documentsHold}
-use Rattle.documents.specs.Laws.{both}
 use Rattle.centroid_index.specs.Index.{entry, entriesFrom, entries}
 use Rattle.blocking.specs.Blocking.{blockingTests, fixedOffsets}
 use Rattle.admission.specs.Admission.{centroidsUsed, blockingFaults, inputTests}
@@ -84,18 +84,6 @@ unfolding clearedScratch scratchLengths
 cleared-lengths s = λ j. record { order = length-replicate {A = ℕ} (length (s .order)) 0 j; blocks = length-replicate {A = ℕ} (length (s .blocks)) 0 j; sorted = length-replicate {A = ℕ} (length (s .sorted)) 0 j; known = length-replicate {A = ℕ} (length (s .known)) 0 j; taken = length-replicate {A = ℕ} (length (s .taken)) 0 j; counts = length-replicate {A = ℕ} (length (s .counts)) 0 j; starts = length-replicate {A = ℕ} (length (s .starts)) 0 j; slots = length-replicate {A = ℕ} (length (s .slots)) 0 j; weights = length-replicate (length (s .weights)) (fin false 0 (pos 0)) j; scores = length-replicate (length (s .scores)) (fin false 0 (pos 0)) j; keys = length-replicate {A = ℕ} (length (s .keys)) 0 j }
 
 -- ---- the parts of the tests
-or-left : (a b : Bool) → (a || b) ≡ false → a ≡ false
-or-left true b h = h
-or-left false b h = refl
-
-every-both : {A : Type 0} (p : A → Bool) (a b : List A) → every p (a ++ b) ≡ (every p a && every p b)
-every-both p [] b = refl
-every-both p (x ∷ a) b = ap (λ z. p x && z) (every-both p a b) ∙ assoc (p x) (every p a) (every p b)
-  where
-    assoc : (x y z : Bool) → (x && (y && z)) ≡ ((x && y) && z)
-    assoc true y z = refl
-    assoc false y z = refl
-
 entry-count : (d : Documents) (i : ℕ) (cs : List ℕ) → length (entriesFrom d i cs) ≡ length (joined (map (terms d) cs))
 entry-count d i [] = refl
 entry-count d i (c ∷ cs) =

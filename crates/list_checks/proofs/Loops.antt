@@ -14,15 +14,12 @@ use borrow.Author.Tests.{ltb-true, ltb-false, le-ltb, le-leb, lt-leb}
 use Rattle.float32.specs.BoundLaws.{in-bound-tests}
 use Rattle.quantizing.specs.Quantizing.{stepAllowed}
 use Rattle.lists.specs.Lists.{every, neverFalls, strictlyRise}
+use Rattle.lists.specs.Laws.{and-true}
 use Rattle.list_checks.specs.Counting.{fall, falls, seamAt, seams}
 
 and-assoc : (a b c : Bool) → ((a && b) && c) ≡ (a && (b && c))
 and-assoc true b c = refl
 and-assoc false b c = refl
-
-pub and-true : (a : Bool) → (a && true) ≡ a
-and-true true = refl
-and-true false = refl
 
 -- ---- each element by itself
 module _ {A : Type 0} (p : A → Bool) (xs : List A) (d : A) where
@@ -85,10 +82,6 @@ module _ (ok : Bool) (os : List ℕ) (i : ℕ) (low : 1 ≤ i) where
 pub step-test : (x : Float) → ((le (neg (ofBits binary32 1333788672)) x && le x (ofBits binary32 1333788672)) && le (ofBits binary32 0) x) ≡ stepAllowed x
 unfolding stepAllowed ofBits
 step-test x = ap (λ b. b && le (ofBits binary32 0) x) (in-bound-tests x)
-
-pub byte-small : (b : Bool) → boolByte b ≤ 1
-byte-small true = omega arith
-byte-small false = omega arith
 
 pub byte-fall : (x y : ℕ) → boolByte (leb y x) ≡ fall x y
 byte-fall x y = go (ltb x y) refl

@@ -10,7 +10,8 @@ use lib.Dec.{leb, ltb, eqb}
 use lib.Ieee.{Float}
 use borrow.Author.Tests.{eq-eqb, ne-eqb}
 use Rattle.lists.specs.Lists.{every, firstOr, lastOr, between, neverFalls, strictlyRise}
-use Rattle.documents.specs.Laws.{both, last-at}
+use Rattle.lists.specs.Laws.{both}
+use Rattle.documents.specs.Laws.{last-at}
 use Rattle.quantizing.specs.Quantizing.{minimumAllowed, stepAllowed}
 use Rattle.quantized_summary.specs.Layout.{arrays}
 use Rattle.quantized_summary.specs.WellFormed.{blocksHold, lengthsHold, offsetsHold, idsHold, boundsHold, wellFormed}

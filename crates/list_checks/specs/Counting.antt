@@ -1,10 +1,11 @@
 -- Ids that strictly rise within each component, by counting: each one that does not lie above the one before it is the first of a component. Assumes nothing.
 use Prim.Native.Nat.{ℕ, zero, suc, _+_, _-_, _≤_, _<_}
 use mathlib.Core.Path.{_≡_, refl, sym, ap, _∙_}
-use mathlib.Core.Bool.{Bool, true, false, _&&_, cond, false≢true}
+use mathlib.Core.Bool.{Bool, true, false, _&&_, cond}
 use native.Mathlib.Omega.{arith}
 use borrow.Author.Tests.{ltb-true, ltb-false, le-ltb, lt-ltb, leb-true, eqb-true, eq-eqb, ne-eqb}
 use Rattle.lists.specs.Lists.{every, between, firstOr, lastOr, part, neverFalls, strictlyRise}
+use Rattle.lists.specs.Laws.{both}
 use mathlib.Core.List.{List, [], _∷_}
 use lib.ListN.{length, getD, take, drop, length-drop}
 use lib.Seq.{drop-length, drop-drop, getD-drop}
@@ -33,10 +34,6 @@ unfoldable pub idsCounted : ℕ → List ℕ → List ℕ → Bool
 idsCounted summaries os ids = every (λ i. ltb i summaries) ids && eqb (falls ids) (seams ids os)
 
 -- ---- laws
-both : (a b : Bool) → (a && b) ≡ true → (a ≡ true) × (b ≡ true)
-both true b h = (refl, h)
-both false b h = absurd (false≢true h)
-
 -- no fall at all: strictly rising
 rise-count : (xs : List ℕ) → eqb (falls xs) 0 ≡ strictlyRise xs
 unfolding falls

@@ -13,14 +13,14 @@ use Rattle.refusal.specs.declared.Verdict.the-variants as verdict
 use Rattle.refusal.specs.First.{Faultless, faultless, accepted-by}
 use Rattle.configuration.specs.declared.SummarizationStrategy.{SummarizationStrategy}
 use Rattle.lists.specs.Lists.{between}
+use Rattle.lists.specs.Laws.{both}
 use Rattle.documents.specs.Documents.{Documents}
-use Rattle.documents.specs.Laws.{both}
 use Rattle.layout.specs.Layouts.{entriesFrom, layout}
 use Rattle.layout.specs.Placing.{componentOf, movedBy}
 use Rattle.layout.specs.Counted.{scanFrom, startsFrom, total}
 use Rattle.layout.specs.Gathered.{starts-groups}
 use Rattle.layout.specs.Guards.{blank}
-use Rattle.layout.specs.Keys.{lent, counted, named, laidComponents, laidStarts, scanned}
+use Rattle.layout.specs.Keys.{lent, counted, named, laidComponents, laidStarts, scanned, counts-long}
 use Rattle.layout.specs.Written.{written-components, written-offsets, written-entries, entries-total}
 use Rattle.building.specs.Needs.{outputSuffices}
 use Rattle.building.specs.Building.{Outputs, outputs, outputLengths, filled, laid}
@@ -31,7 +31,7 @@ use Rattle.list_places.specs.Placed.{cursorsOf, filledBy, secondPass}
 use Rattle.list_places.specs.Settled.{writtenOf, over}
 use Rattle.list_layout.specs.Laid.{postingOf, tops, builtFrom, cutTo, laidTests, laidVerdict}
 use Rattle.list_sizes.specs.Sized.{within, measuredLeft}
-use Rattle.list_sizes.specs.Tallied.{counts-long, below, rare, tally, narrow, slight, component-count, entry-count, code-count}
+use Rattle.list_sizes.specs.Tallied.{below, rare, tally, narrow, slight, component-count, entry-count, code-count}
 
 sets-front : {A : Type 0} (l out : List A) → length out ≤ length l → sets l 0 out ≡ laid out l
 sets-front l out h = sets-eq out l 0 (omega arith) ∙ ap (λ n. out ++ drop n l) (let w : 0 + length out ≡ length out = omega arith in w)

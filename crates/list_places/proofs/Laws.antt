@@ -7,6 +7,7 @@ use mathlib.Core.Logic.{⊎-elim}
 use mathlib.Core.List.{List, [], _∷_, map}
 use lib.ListN.{length, getD, set, drop, length-map, drop-of-length-le}
 use lib.Seq.{sets, drop-cons}
+use Rattle.lists.specs.Laws.{le-or-lt}
 use Rattle.packing.specs.declared.PackedPosting.{PackedPosting}
 use Rattle.packing.specs.declared.PackingAnswer.{PackingAnswer}
 use Rattle.packing.specs.declared.PackingAnswer.the-variants.{Packed, Refused}
@@ -15,7 +16,6 @@ use Rattle.refusal.specs.declared.Refusal.{Refusal}
 use Rattle.documents.specs.declared.DocumentRange.{DocumentRange}
 use Rattle.documents.specs.Documents.{documents}
 use Rattle.documents.specs.Answers.{rangeOf}
-use Rattle.sort.specs.Laws.{le-or-lt}
 use Rattle.list_sizes.specs.Sized.{packedNumber, postingOf}
 
 -- ---- what is left to write, written, is all written

@@ -11,7 +11,7 @@ use Rattle.refusal.specs.declared.Verdict.{Verdict}
 use Rattle.refusal.specs.declared.Verdict.the-variants as verdict
 use Rattle.configuration.specs.declared.SummarizationStrategy.{SummarizationStrategy}
 use Rattle.lists.specs.Lists.{between}
-use Rattle.sort.specs.Laws.{le-or-lt}
+use Rattle.lists.specs.Laws.{le-or-lt}
 use Rattle.documents.specs.Documents.{Term, Documents}
 use Rattle.layout.specs.Keys.{lent, named, laidComponents, laidStarts, scanned}
 use Rattle.block_documents.specs.Blocks.{topsOf}

@@ -1,37 +1,37 @@
 -- What the first pass leaves and answers, from what counting left. Assumes nothing.
-use Prim.Native.Nat.{ℕ, suc, _+_, _-_, _≤_, _<_, min}
+use Prim.Native.Nat.{ℕ, suc, _+_, _-_, _≤_, min}
 use native.Mathlib.Omega.{arith}
-use mathlib.Core.Path.{_≡_, refl, sym, ap, _∙_, subst}
+use mathlib.Core.Path.{_≡_, refl, sym, ap, _∙_}
 use mathlib.Core.Bool.{Bool, true, false, not, _&&_, _||_, cond, true≢false}
 use mathlib.Core.List.{List, [], _∷_, _++_, map, foldl}
-use lib.ListN.{length, take, drop, replicate, length-map, length-append}
-use lib.Seq.{take-at, take-length, length-take-le}
+use lib.ListN.{length, take, drop, replicate, length-map}
+use lib.Seq.{take-at, length-take-le}
 use lib.Dec.{leb, ltb, eqb}
 use lib.Ieee.{Float}
-use borrow.Author.Tests.{ltb-false, ltb-true, leb-true, leb-false, le-leb, lt-leb, lt-ltb, le-ltb, not-false}
+use borrow.Author.Tests.{ltb-false, not-false}
 use Rattle.refusal.specs.declared.Refusal.{Refusal}
 use Rattle.refusal.specs.declared.Refusal.the-variants.{OutsideLimits, BufferTooShort}
 use Rattle.refusal.specs.declared.Verdict.{Verdict}
 use Rattle.refusal.specs.declared.Verdict.the-variants as verdict
-use Rattle.refusal.specs.First.{Test, _gives_, firstOf, Faultless, faultless, first-after, first-refused}
+use Rattle.refusal.specs.First.{_gives_, firstOf, Faultless, faultless, first-after, first-refused}
 use Rattle.configuration.specs.declared.SummarizationStrategy.{SummarizationStrategy}
 use Rattle.lists.specs.Lists.{between}
+use Rattle.lists.specs.Laws.{between-count}
 use Rattle.documents.specs.Documents.{Documents}
 use Rattle.layout.specs.Layouts.{entriesFrom}
 use Rattle.layout.specs.Placing.{componentOf}
 use Rattle.layout.specs.Guards.{blank}
-use Rattle.layout.specs.Counted.{presentFrom}
-use Rattle.layout.specs.Keys.{counted, onTo}
+use Rattle.layout.specs.Keys.{counted}
 use Rattle.building.specs.declared.BuildAnswer.{BuildAnswer}
 use Rattle.building.specs.declared.BuildAnswer.the-variants as answer
 use Rattle.building.specs.Built.{Built}
 use Rattle.building.specs.Needs.{Output, outputSuffices}
-use Rattle.building.specs.Building.{answerBy, sizesBuilt}
+use Rattle.building.specs.Building.{answerBy}
 use Rattle.block_documents.specs.Blocks.{topsOf, blocksHold, anyShort}
 use Rattle.block_counts.specs.Counting.{Counting, counting, countTests, countVerdict, countLeft, countsOf}
 use Rattle.list_sizes.specs.declared.OutputLengths.{OutputLengths}
-use Rattle.list_sizes.specs.Sized.{postingOf, tops, builtFrom, dimensionOutside, cutTo, laidTests, laidVerdict, roomOf, judgedRoom, sizesOrRefused, roomBy, roomAnswer, within, measuredLeft, Measures}
-use Rattle.list_sizes.specs.Tallied.{component-count, start-count, entry-count, code-count, minimum-count, step-count, between-count}
+use Rattle.list_sizes.specs.Sized.{postingOf, tops, builtFrom, dimensionOutside, cutTo, laidVerdict, roomOf, judgedRoom, sizesOrRefused, roomBy, roomAnswer, within, measuredLeft, Measures}
+use Rattle.list_sizes.specs.Tallied.{component-count, start-count, entry-count, code-count, minimum-count, step-count}
 
 module _ (dimension : ℕ) (s : SummarizationStrategy) (d : Documents) (order blocks : List ℕ) (w : Counting) (room : Output) where
   pub measured-outside : (b : Bool) → b ≡ dimensionOutside dimension → b ≡ true → Measures dimension s d order blocks w room (answer.Refused OutsideLimits) w

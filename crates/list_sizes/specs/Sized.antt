@@ -1,11 +1,10 @@
 -- The result of a list's blocks, when writing it is refused, and what counting its sizes answers and leaves in what it is lent.
-use Prim.Native.Nat.{ℕ, _+_, _-_, _≤_, min}
+use Prim.Native.Nat.{ℕ, _+_, _-_, min}
 use mathlib.Core.Path.{_≡_}
 use mathlib.Core.Bool.{Bool, not, _&&_, _||_, cond}
 use mathlib.Core.List.{List, [], _∷_, _++_, map, foldl}
 use lib.ListN.{length, take, drop}
 use lib.Dec.{leb, ltb, eqb}
-use lib.Ieee.{Float}
 use Rattle.refusal.specs.declared.Refusal.the-variants.{OutsideLimits, BufferTooShort}
 use Rattle.refusal.specs.declared.Verdict.{Verdict}
 use Rattle.refusal.specs.declared.Verdict.the-variants as verdict

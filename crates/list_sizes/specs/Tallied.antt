@@ -1,18 +1,18 @@
 -- The kept terms of a list's blocks, counted: each component is below the dimension and comes once in a block at most, so that the counts
 -- are those of the layout. Assumes nothing.
-use Prim.Native.Nat.{ℕ, zero, suc, _+_, _-_, _*_, _≤_, _<_}
+use Prim.Native.Nat.{ℕ, suc, _+_, _-_, _*_, _≤_, _<_}
 use native.Mathlib.Omega.{arith}
-use mathlib.Core.Path.{_≡_, refl, sym, ap, _∙_, subst}
-use mathlib.Core.Bool.{Bool, true, false, _&&_, _||_, cond, true≢false}
+use mathlib.Core.Path.{_≡_, refl, sym, ap, _∙_}
+use mathlib.Core.Bool.{Bool, true, false, _||_, cond, true≢false}
 use mathlib.Core.List.{List, [], _∷_, _++_, map, foldl}
-use lib.ListN.{length, getD, set, length-append, length-map, length-set, length-replicate}
-use lib.Seq.{length-take-le}
+use lib.ListN.{length, getD, length-append, length-map, length-replicate}
 use lib.Dec.{ltb, eqb}
 use lib.Ieee.{Float}
-use borrow.Author.Tests.{ltb-true, eqb-true, eqb-false, ne-eqb}
+use borrow.Author.Tests.{ltb-true, eqb-true}
 use Rattle.configuration.specs.declared.SummarizationStrategy.{SummarizationStrategy}
-use Rattle.lists.specs.Lists.{EachOf, every, joined, offsetsFrom, between, among, keys, withKey}
+use Rattle.lists.specs.Lists.{EachOf, every, joined, among, keys, withKey}
 use Rattle.lists.specs.Groups.{those-append, none-with, offsets-count}
+use Rattle.lists.specs.Laws.{and-right, every-each}
 use Rattle.documents.specs.Documents.{Term, Documents, terms}
 use Rattle.documents.specs.Checks.{termsHold, termsHoldBelow, documentsHold}
 use Rattle.block_maximum.specs.Maximum.{blockTerms, blockMaximum}
@@ -24,25 +24,13 @@ use Rattle.layout.specs.Layouts.{values, Entry, entryOf, entriesOf, entriesFrom
 use Rattle.layout.specs.Placing.{componentOf, countOf}
 use Rattle.layout.specs.Counted.{presentFrom, total, Tally}
 use Rattle.layout.specs.Gathered.{present-keys}
-use Rattle.layout.specs.Keys.{counted, onTo}
+use Rattle.layout.specs.Keys.{counted, onTo, counts-long}
 use Rattle.layout.specs.Guards.{blank, tally-of}
 use Rattle.layout.specs.Written.{total-entries, entries-total}
 use Rattle.block_documents.specs.Blocks.{topOf, topsOf, blocksHold}
 
 abbrev part : Term → ℕ
 part t = t .component
-
-and-right : (a b : Bool) → (a && b) ≡ true → b ≡ true
-and-right true b h = h
-and-right false b h = absurd (true≢false (sym h))
-
-every-each : {A : Type 0} (p : A → Bool) (l : List A) → every p l ≡ true → EachOf (λ x. p x ≡ true) l
-every-each p [] h = tt
-every-each p (x ∷ l) h = go (p x) refl h (every-each p l)
-  where
-    go : (b : Bool) → p x ≡ b → (b && every p l) ≡ true → (every p l ≡ true → EachOf (λ x. p x ≡ true) l) → (p x ≡ true) × EachOf (λ x. p x ≡ true) l
-    go true e h f = (e, f h)
-    go false e h f = absurd (true≢false (sym h))
 
 module _ {A : Type 0} (P : A → Type 0) where
   each-append : (l r : List A) → EachOf P l → EachOf P r → EachOf P (l ++ r)
@@ -126,23 +114,10 @@ count-few c s d b (l ∷ bs) =
     omega arith
 
 -- ---- the counts
-pub counts-long : (cs counts : List ℕ) → length (foldl counted counts cs) ≡ length counts
-counts-long [] counts = refl
-counts-long (c ∷ cs) counts = counts-long cs (counted counts c) ∙ at (ltb (getD counts c 0) 65535)
-  where
-    at : (b : Bool) → length (cond b (set counts c (getD counts c 0 + 1)) counts) ≡ length counts
-    at true = length-set counts c (getD counts c 0 + 1)
-    at false = refl
-
 total-few : (l : List ℕ) (m : ℕ) → ((i : ℕ) → i < length l → getD l i 0 ≤ m) → total l ≤ length l * m
 unfolding total
 total-few [] m h = omega arith
 total-few (x ∷ l) m h = let i = total-few l m (λ i k. h (suc i) (omega arith)) in let f = h 0 (omega arith) in omega arith
-
-pub between-count : {A : Type 0} (os : List ℕ) (xs : List A) → length (between os xs) ≡ length os - 1
-between-count [] xs = refl
-between-count (a ∷ []) xs = refl
-between-count (a ∷ b ∷ os) xs = let i = between-count (b ∷ os) xs in ap suc i ∙ omega arith
 
 module _ (n : ℕ) (s : SummarizationStrategy) (d : Documents) (bs : List (List ℕ)) (hold : blocksHold n d bs ≡ true) (few : length bs ≤ 65535) (small : n ≤ 1048575) where
   abbrev es : List Entry

@@ -1,48 +1,36 @@
 -- Over blocks that were made, the layout is judged by a build's last two tests, and its result is the build's. Assumes nothing.
 use Prim.Native.Nat.{ℕ, _+_, _≤_, _<_, min, max}
 use native.Mathlib.Omega.{arith}
-use mathlib.Core.Path.{_≡_, refl, sym, ap, _∙_, subst}
-use mathlib.Core.Bool.{Bool, true, false, not, _&&_, _||_, true≢false}
-use mathlib.Core.List.{List, [], _∷_, _++_, map}
+use mathlib.Core.Path.{_≡_, refl, sym, ap, _∙_}
+use mathlib.Core.Bool.{true, false, not, _||_}
+use mathlib.Core.List.{List, [], _∷_, map}
 use lib.ListN.{length, getD, take, length-map, length-take}
-use lib.Dec.{T, leb, ltb, eqb}
+use lib.Dec.{T, leb, ltb}
 use lib.Ieee.{nan, binary32, fits}
 use borrow.Author.Tests.{leb-true, le-ltb, not-false}
 use Rattle.refusal.specs.declared.Refusal.the-variants.{OutsideLimits, WrongTerms, BufferTooShort, EmptySummary}
 use Rattle.refusal.specs.declared.Verdict.the-variants as verdict
-use Rattle.refusal.specs.First.{Test, _gives_, firstOf, Faultless, faultless, first-after}
-use Rattle.lists.specs.Lists.{EachOf, every, between}
-use Rattle.documents.specs.Documents.{Documents, terms, packed}
+use Rattle.refusal.specs.First.{_gives_, firstOf, Faultless, faultless, first-after, faultless-both as apart}
+use Rattle.lists.specs.Lists.{EachOf, every}
+use Rattle.lists.specs.Laws.{both, or-right, every-each, every-front}
+use Rattle.documents.specs.Documents.{terms, packed}
 use Rattle.documents.specs.Checks.{termsHoldBelow, documentsHold}
-use Rattle.documents.specs.Laws.{both}
 use Rattle.blocking.specs.Limits.{listLimit, blockLimit}
-use Rattle.admission.specs.Admission.{centroidsUsed, startsFit, lengthsFit, blockingFaults, inputTests}
+use Rattle.admission.specs.Admission.{centroidsUsed, inputTests}
 use Rattle.summaries.specs.Summaries.{summary}
 use Rattle.layout.specs.Layouts.{layout}
 use Rattle.layout.specs.AnyOrder.{layout-any-order}
 use Rattle.block_documents.specs.Blocks.{topsOf, blocksHold, anyShort}
-use Rattle.block_counts.specs.Counting.{Counting, countTests}
+use Rattle.block_counts.specs.Counting.{Counting}
 use Rattle.block_passes.specs.Kept.{tops-sorted, tops-floats, empty-same}
-use Rattle.building.specs.Built.{Input, Built, blocks, blockDocuments, summaries, built}
+use Rattle.building.specs.Built.{Input, blocks, blockDocuments, summaries, built}
 use Rattle.building.specs.Needs.{Scratch, Output, sizesFor, scratchNeeds, scratchSuffices, outputSuffices}
 use Rattle.building.specs.Building.{Scratches, scratchLengths, someEmpty}
 use Rattle.building.specs.Offsets.{few-blocks}
-use Rattle.building.specs.Stored.{every-each, blocks-each}
+use Rattle.building.specs.Stored.{blocks-each}
 use Rattle.list_ready.specs.Made.{makeTests}
-use Rattle.list_layout.specs.Laid.{postingOf, builtFrom, dimensionOutside, cutTo, laidVerdict}
+use Rattle.list_layout.specs.Laid.{postingOf, builtFrom, dimensionOutside, laidVerdict}
 use Rattle.list_whole.specs.Listed.{each-every, postings-packed}
-
-or-right : (a b : Bool) → (a || b) ≡ false → b ≡ false
-or-right true b h = absurd (true≢false h)
-or-right false b h = h
-
-every-front : {A : Type 0} (p : A → Bool) (a b : List A) → every p (a ++ b) ≡ true → every p a ≡ true
-every-front p [] b h = refl
-every-front p (x ∷ a) b h = let c = both (p x) (every p (a ++ b)) h in let i = every-front p a b (c .1) in rw (c .0, i)
-
-pub apart : (a b : List Test) → Faultless (a ++ b) → Faultless a × Faultless b
-apart [] b f = (tt, f)
-apart (t ∷ a) b f = let r = apart a b (f .1) in ((f .0, r .0), r .1)
 
 -- ---- the work space of the layout has a place for each component
 pub record Roomy (dimension : ℕ) (s : Scratch) : Type 0 where

@@ -1,25 +1,25 @@
 -- The documents of a list in block order are those listed; what holds of each listed one holds there too. Assumes nothing.
-use Prim.Native.Nat.{ℕ, suc, _+_, _-_, _≤_, _<_}
+use Prim.Native.Nat.{ℕ, _+_, _-_}
 use native.Mathlib.Omega.{arith}
 use mathlib.Core.Path.{_≡_, refl, sym, ap, _∙_, subst}
-use mathlib.Core.Bool.{Bool, true, false, _&&_, true≢false}
-use mathlib.Core.List.{List, [], _∷_, _++_, map, List·Permᴰ, Permᴰ·symm}
-use lib.ListN.{length}
+use mathlib.Core.Bool.{Bool, true}
+use mathlib.Core.List.{List, [], _∷_, map, Permᴰ·symm}
 use lib.Dec.{leb, ltb}
-use borrow.Author.Tests.{ltb-true, leb-true, lt-leb, le-ltb, le-leb}
+use borrow.Author.Tests.{ltb-true, leb-true, lt-leb, le-ltb}
 use Rattle.refusal.specs.declared.Verdict.the-variants as verdict
 use Rattle.refusal.specs.First.{firstOf, accepted-by}
 use Rattle.configuration.specs.declared.BlockingStrategy.{BlockingStrategy}
 use Rattle.configuration.specs.declared.BlockingStrategy.the-variants.{FixedSize, RandomKmeans}
 use Rattle.lists.specs.Lists.{EachOf, every, joined}
+use Rattle.lists.specs.Laws.{every-each}
 use Rattle.packing.specs.Packing as range
 use Rattle.summaries.specs.Each.{each-permuted}
 use Rattle.documents.specs.Documents.{Documents, start, size, packed}
 use Rattle.clusters.specs.Clusters.{clusters}
+use Rattle.clusters.specs.Promises.{clusters-share}
 use Rattle.admission.specs.Admission.{startsFit, lengthsFit}
 use Rattle.building.specs.Built.{Input, inClusters, assignedIn, blockedIn, blocks}
-use Rattle.building.specs.Shares.{clusters-share, assigned-documents}
-use Rattle.building.specs.Stored.{every-each}
+use Rattle.building.specs.Shares.{assigned-documents}
 use Rattle.list_layout.specs.Laid.{packedNumber, postingOf}
 
 pub each-every : {A : Type 0} (p : A → Bool) (l : List A) → EachOf (λ x. p x ≡ true) l → every p l ≡ true

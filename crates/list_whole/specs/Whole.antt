@@ -1,10 +1,10 @@
 -- A list's blocks made and then its layout written, or either refused: together that is the build. Assumes nothing.
-use Prim.Native.Nat.{ℕ, _≤_, _<_}
+use Prim.Native.Nat.{ℕ, _<_}
 use native.Mathlib.Omega.{arith}
-use mathlib.Core.Path.{_≡_, refl, sym, ap, _∙_, subst}
-use mathlib.Core.Bool.{Bool, true, false, not, cond, true≢false}
+use mathlib.Core.Path.{_≡_, refl, sym, ap, _∙_}
+use mathlib.Core.Bool.{Bool, true, false, not, true≢false}
 use mathlib.Core.List.{List, [], _∷_, _++_}
-use lib.ListN.{length, getD, take, drop, replicate, length-append, length-replicate}
+use lib.ListN.{length, getD, take, replicate, length-replicate}
 use lib.IntN.{pos}
 use lib.Dec.{T}
 use lib.Ieee.{Float, fin, nan, binary32, fits}
@@ -17,10 +17,10 @@ use Rattle.admission.specs.Admission.{inputTests}
 use Rattle.block_counts.specs.Counting.{counting}
 use Rattle.building.specs.declared.BuildAnswer.{BuildAnswer}
 use Rattle.building.specs.declared.BuildAnswer.the-variants as answer
-use Rattle.building.specs.Built.{Input, Built, blockedBy, blocks, summaries, built}
-use Rattle.building.specs.Needs.{sizesFor, sizesOf, scratchNeeds, scratchSuffices, Output, outputSuffices}
+use Rattle.building.specs.Built.{Input, blockedBy, blocks, summaries, built}
+use Rattle.building.specs.Needs.{sizesFor, sizesOf, scratchNeeds, scratchSuffices, outputSuffices}
 use Rattle.building.specs.Building as build
-use Rattle.building.specs.Building.{Outputs, Scratches, scratches, Lent, lent, outputLengths, scratchLengths, someEmpty, tests, verdictOf, laid, zeros, floatZeros, clearedOutput, clearedScratch, answerBy, leaves, builds}
+use Rattle.building.specs.Building.{Outputs, Scratches, scratches, lent, outputLengths, scratchLengths, someEmpty, tests, verdictOf, laid, zeros, floatZeros, clearedOutput, clearedScratch, answerBy, leaves, builds}
 use Rattle.building.specs.Left.{in-front}
 use Rattle.building.specs.Offsets.{as-many}
 use Rattle.list_ready.specs.declared.ListBlocks.{ListBlocks}

@@ -1,16 +1,15 @@
 -- Laws of `rising`, `groups` and `offsetsFrom`. Assumes nothing.
-use Prim.Native.Nat.{ℕ, zero, suc, _+_, _-_, _≤_, _<_}
+use Prim.Native.Nat.{ℕ, suc, _+_, _-_, _≤_, _<_}
 use native.Mathlib.Omega.{arith}
 use native.Mathlib.Decide.{decLe}
-use mathlib.Core.Path.{_≡_, refl, sym, ap, _∙_, subst}
-use mathlib.Core.Logic.{_⊎_, inl, inr}
-use mathlib.Core.Bool.{Bool, true, false, _&&_, _||_, cond}
+use mathlib.Core.Path.{_≡_, refl, sym, ap, _∙_}
+use mathlib.Core.Bool.{Bool, true, false, _||_, cond}
 use mathlib.Core.List.{List, [], _∷_, _++_, map, map-append, append-assoc, append-nil}
-use lib.ListN.{length, take, drop, length-append, length-map}
+use lib.ListN.{length, take, length-append, length-map}
 use lib.Seq.{take-append-seam, drop-append-seam}
-use lib.Dec.{leb, ltb, eqb}
+use lib.Dec.{leb, eqb}
 use borrow.Author.Tests.{lt-ltb, le-ltb, le-leb, lt-leb, eq-eqb, ne-eqb, eqb-true}
-use Rattle.lists.specs.Lists.{EachOf, insertBy, sortedBy, those, lastOr, joined, offsetsFrom, between, part, among, putOnce, rising, keys, withKey, groups}
+use Rattle.lists.specs.Lists.{EachOf, insertBy, sortedBy, those, lastOr, joined, offsetsFrom, between, part, among, putOnce, rising, withKey, groups}
 
 -- ---- numbers that strictly rise, the first at least n
 abbrev pub RisesFrom : ℕ → List ℕ → Type 0

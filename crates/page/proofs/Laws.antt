@@ -2,20 +2,21 @@
 use mathlib.Core.Path.{_≡_, refl, sym, ap, _∙_}
 use mathlib.Core.List.{List, [], _∷_}
 use mathlib.Core.Bool.{Bool, true, false, cond}
-use Prim.Native.Nat.{ℕ, suc, _+_, _≤_, _<_, _%_, min}
+use Prim.Native.Nat.{ℕ, _+_, _≤_, _<_, _%_, min}
 use native.Mathlib.Omega.{arith}
 use native.Mathlib.Numerals.{add-one}
 use borrow.Author.Tests.{lt-ltb, le-ltb, eq-eqb, ne-eqb, ltb-true, ltb-false}
-use lib.ListN.{length, getD, drop, set, replicate, drop-of-length-le}
+use lib.ListN.{length, getD, drop, set, drop-of-length-le}
 use lib.Seq.{drop-cons, drop-length}
-use lib.Dec.{eqb, ltb}
+use lib.Dec.{ltb}
 use lib.Ieee.{Float, nan, binary32, ofBits, add, mul}
 use Rattle.lists.specs.Lists.{every}
+use Rattle.lists.specs.Laws.{both}
 use Rattle.documents.specs.Checks.{slicesHold, slicesHoldBelow}
-use Rattle.documents.specs.Laws.{both, slices-even, slices-below}
+use Rattle.documents.specs.Laws.{slices-even, slices-below}
 use Rattle.page.specs.declared.Reading.the-variants.{Breaks, Score}
 use Rattle.page.specs.declared.Sum.{Sum}
-use Rattle.page.specs.Through.{laying, laidSum, marking, sieveOf, sumOf, belows, sought, looked, stepped, through, readThrough}
+use Rattle.page.specs.Through.{laying, laidSum, marking, sumOf, belows, sought, looked, stepped, through, readThrough}
 
 -- ---- the sieve
 pub marking-step : (sieve qs : List ℕ) (i : ℕ) → i < length qs → marking (set sieve (getD qs i 0 % 4096) 1) (drop (i + 1) qs) ≡ marking sieve (drop i qs)

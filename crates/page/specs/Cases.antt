@@ -1,6 +1,6 @@
 -- Worked readings, as one table. Assumes nothing.
 use mathlib.Core.Path.{_≡_, refl}
-use mathlib.Core.List.{List, [], _∷_, zipWith}
+use mathlib.Core.List.{[], _∷_, zipWith}
 use Prim.Native.Nat.{ℕ}
 use lib.Ieee.{Float, nan, binary32, ofBits, add, mul, neg, le}
 use Rattle.float32.specs.Bound.{inBound}

@@ -14,10 +14,10 @@ use lib.Ieee.{Float, nan, inf, fin, binary32, fits, add, mul}
 use lib.Ieee.Fits.{add-fits, mul-fits}
 use lib.Ieee.Scale.{finite}
 use Rattle.lists.specs.Lists.{every, lastOr}
+use Rattle.lists.specs.Laws.{both}
 use Rattle.float32.specs.Bound.{inBound}
 use Rattle.float32.specs.Units.{negative}
 use Rattle.documents.specs.Documents.{Term, term, paired, valuesAt}
-use Rattle.documents.specs.Laws.{both}
 use Rattle.page.specs.Score.{Above, ofPage, walkedFrom, values-none}
 use Rattle.page.specs.Through.{laying, tableOf, laidSum}
 use Rattle.page.specs.Zeros.{zeroOf, zero-product, add-zero, stays-off}

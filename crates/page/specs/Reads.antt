@@ -1,19 +1,18 @@
 -- With the table and the sieve of a query whose terms hold, a page reads as it does against that query. Assumes nothing.
 use mathlib.Core.Path.{_≡_, refl, sym, ap, _∙_}
 use mathlib.Core.List.{List, map}
-use mathlib.Core.Bool.{Bool, true, false, _&&_, cond}
+use mathlib.Core.Bool.{Bool, true, false, cond}
 use Prim.Native.Nat.{ℕ}
 use native.Mathlib.Omega.{arith}
-use borrow.Author.Tests.{eqb-true}
 use lib.ListN.{length}
 use lib.Dec.{eqb, ltb}
 use lib.Ieee.{Float, binary32, ofBits}
 use Rattle.lists.specs.Lists.{every, strictlyRise}
+use Rattle.lists.specs.Laws.{both}
 use Rattle.float32.specs.Bound.{inBound}
-use Rattle.documents.specs.Documents.{Term, paired, dot}
+use Rattle.documents.specs.Documents.{paired, dot}
 use Rattle.documents.specs.Checks.{termsHold, slicesHold, slicesHoldBelow}
-use Rattle.documents.specs.Laws.{both, paired-components, slices-apart, slices-even, slices-below}
-use Rattle.page.specs.declared.Reading.{Reading}
+use Rattle.documents.specs.Laws.{paired-components, slices-apart, slices-even, slices-below, slices-even as holds-even}
 use Rattle.page.specs.declared.Reading.the-variants.{Breaks, Score}
 use Rattle.page.specs.Reading.{reading}
 use Rattle.page.specs.Through.{tableOf, laidSum, sieveOf, sumOf, through, readThrough}
@@ -21,11 +20,6 @@ use Rattle.page.specs.Zeros.{zeroOf}
 use Rattle.page.specs.Laid.{laid-right, fine-start}
 use Rattle.page.specs.Score.{Above, above-of, walked-is-dot}
 use Rattle.page.specs.Walk.{sieve-passes, through-right}
-
--- slices that hold are equally long, and their terms rise
-pub holds-even : (cs : List ℕ) (vs : List Float) → slicesHold cs vs ≡ true → length cs ≡ length vs
-unfolding slicesHold
-holds-even cs vs h = eqb-true (length cs) (length vs) (both (eqb (length cs) (length vs)) (termsHold (paired cs vs)) h .0)
 
 holds-rise : (cs : List ℕ) (vs : List Float) → slicesHold cs vs ≡ true → strictlyRise (map (λ t. t .component) (paired cs vs)) ≡ true
 unfolding slicesHold termsHold

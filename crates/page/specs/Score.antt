@@ -1,16 +1,16 @@
 -- The dot product may be summed in the order of the page's terms, as both lists of terms rise. Assumes nothing.
-use mathlib.Core.Path.{_≡_, refl, sym, ap, _∙_}
+use mathlib.Core.Path.{_≡_, refl, sym, _∙_}
 use mathlib.Core.List.{List, [], _∷_, _++_, map, foldl}
-use mathlib.Core.Bool.{Bool, true, false, cond}
+use mathlib.Core.Bool.{Bool, true, false}
 use Prim.Native.Nat.{ℕ, suc, _≤_, _<_}
 use native.Mathlib.Omega.{arith}
 use borrow.Author.Tests.{eq-eqb, ne-eqb, ltb-true, ltb-false, eqb-true, eqb-false}
 use lib.Dec.{eqb, ltb}
 use lib.IntN.{pos}
 use lib.Ieee.{Float, fin, binary32, add, mul}
-use Rattle.lists.specs.Lists.{joined, strictlyRise}
-use Rattle.documents.specs.Documents.{Term, valuesAt, products, dot, sum}
-use Rattle.documents.specs.Laws.{both}
+use Rattle.lists.specs.Lists.{strictlyRise}
+use Rattle.lists.specs.Laws.{both}
+use Rattle.documents.specs.Documents.{Term, valuesAt, products, dot}
 
 -- each component is at least n, and more than the one before it
 abbrev pub Above : ℕ → List Term → Type 0

@@ -1,18 +1,19 @@
 -- The sieve passes over no term that counts, and looking up from where the last look ended misses none. Assumes nothing.
 use mathlib.Core.Path.{_≡_, refl, sym, ap, _∙_}
-use mathlib.Core.List.{List, [], _∷_, map, foldl, zipWith}
+use mathlib.Core.List.{List, [], _∷_, foldl, zipWith}
 use mathlib.Core.Bool.{Bool, true, false, _&&_, cond, true≢false}
 use Prim.Native.Nat.{ℕ, zero, suc, _+_, _-_, _≤_, _<_, _%_}
 use native.Mathlib.Nat.{mod-lt}
 use native.Mathlib.Omega.{arith}
-use borrow.Author.Tests.{lt-ltb, le-ltb, eq-eqb, ne-eqb, ltb-true, ltb-false, eqb-true, eqb-false}
+use borrow.Author.Tests.{lt-ltb, eq-eqb, ne-eqb, ltb-true, ltb-false, eqb-true, eqb-false}
 use lib.ListN.{length, getD, drop, set, replicate, length-set, length-drop, length-replicate}
 use lib.Seq.{getD-drop, getD-set-same, getD-set-other}
 use lib.Dec.{eqb, ltb, lit<}
 use lib.Ieee.{Float, nan, binary32, add, mul}
 use Rattle.lists.specs.Lists.{strictlyRise}
-use Rattle.documents.specs.Documents.{Term, term, paired, valuesAt}
-use Rattle.documents.specs.Laws.{both, strictly-rise-at}
+use Rattle.lists.specs.Laws.{both}
+use Rattle.documents.specs.Documents.{term, paired, valuesAt}
+use Rattle.documents.specs.Laws.{strictly-rise-at}
 use Rattle.page.specs.declared.Sum.{Sum}
 use Rattle.page.specs.Score.{Above, ofPage, walkedFrom}
 use Rattle.page.specs.Through.{marking, sieveOf, sumOf, belows, sought, hits, looked, stepped, through}

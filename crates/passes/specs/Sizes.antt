@@ -2,13 +2,13 @@
 use Prim.Native.Nat.{ℕ, zero, suc, _+_, _≤_, _<_}
 use native.Mathlib.Omega.{arith}
 use mathlib.Core.Path.{_≡_, refl, sym, ap, _∙_}
-use mathlib.Core.Bool.{Bool}
 use mathlib.Core.List.{List, [], _∷_, map}
 use lib.ListN.{length, getD, length-map}
 use lib.Dec.{eqb}
 use Rattle.sort.specs.Sorted.{sorted}
 use Rattle.sort.specs.Laws.{length-sorted}
 use Rattle.lists.specs.Lists.{EachOf, those, from}
+use Rattle.lists.specs.Laws.{from-length, those-same}
 use Rattle.counting.specs.Counting.{tally}
 use Rattle.clusters.specs.Clusters.{assign, small, dissolved}
 use Rattle.clusters.specs.Ranks.{rankOf, Among, rank-eqb, rank-below}
@@ -18,14 +18,6 @@ from-at : (a n k : ℕ) → k < n → (G : ℕ → ℕ) → getD (map G (from a 
 from-at a zero k h G = absurd (let z : ⊥ = omega arith in z)
 from-at a (suc n) zero h G = ap G (let z : a ≡ a + 0 = omega arith in z)
 from-at a (suc n) (suc k) h G = from-at (suc a) n k (omega arith) G ∙ ap G (let z : suc a + k ≡ a + suc k = omega arith in z)
-
-from-length : (a n : ℕ) → length (from a n) ≡ n
-from-length a zero = refl
-from-length a (suc n) = ap suc (from-length (suc a) n)
-
-those-same : (p q : ℕ → Bool) → ((i : ℕ) → p i ≡ q i) → (l : List ℕ) → those p l ≡ those q l
-those-same p q e [] = refl
-those-same p q e (i ∷ l) = let j = those-same p q e l in rw (e i, j)
 
 -- two functions that agree on a list's entries
 pub each-same : {A : Type 0} (F G : ℕ → A) (l m : List ℕ) → ((i : ℕ) → Among l i → F i ≡ G i) → EachOf (Among l) m → map F m ≡ map G m

@@ -1,10 +1,9 @@
 -- The first test that fails gives the refusal. Assumes nothing.
 use Prim.Native.Nat.{ℕ, _≤_, _<_}
-use mathlib.Core.Path.{_≡_, refl}
+use mathlib.Core.Path.{_≡_}
 use mathlib.Core.Bool.{Bool, true, false, _||_}
-use mathlib.Core.List.{List}
 use lib.ListN.{length}
-use lib.Dec.{eqb, ltb, leb}
+use lib.Dec.{ltb, leb}
 use borrow.Author.Tests.{eq-eqb, ne-eqb, lt-ltb, le-ltb}
 use Rattle.refusal.specs.declared.Refusal.the-variants.{WrongQuery, WrongDocuments, WrongKeptList, BufferTooShort}
 use Rattle.refusal.specs.declared.Verdict.the-variants.{Accepted, Refused}

@@ -1,5 +1,5 @@
 pub mod Admitted
+pub mod Counted
 pub mod Laid
 pub mod Probes
-pub mod Steps
-pub mod Turns
+pub mod Through

@@ -1,5 +1,3 @@
 pub mod Probing
-pub mod Ranges
 pub mod Probed
-pub mod Held
-pub mod Counted
+pub mod Worst

@@ -1,23 +1,26 @@
 -- What probing leaves: its answer, the kept list where it lies, and the visit bytes.
 use Prim.Native.Nat.{ℕ, _+_}
-use mathlib.Core.Bool.{Bool, not, _||_}
-use mathlib.Core.List.{List, [], _∷_, _++_, map}
-use lib.ListN.{length, getD, take, drop}
+use mathlib.Core.Bool.{not, _||_}
+use mathlib.Core.List.{List, [], _∷_, _++_}
+use lib.ListN.{length, take, drop}
 use lib.Dec.{eqb, leb, ltb}
 use lib.Ieee.{Float}
-use Rattle.lists.specs.Lists.{from}
-use Rattle.refusal.specs.declared.Refusal.{Refusal}
 use Rattle.refusal.specs.declared.Refusal.the-variants.{WrongQuery, WrongDocuments, WrongKeptList, BufferTooShort}
 use Rattle.refusal.specs.declared.Verdict.{Verdict}
 use Rattle.refusal.specs.declared.Verdict.the-variants as verdict
 use Rattle.refusal.specs.Refusals.{numberOf}
 use Rattle.refusal.specs.First.{Test, _gives_, firstOf}
 use Rattle.documents.specs.Checks.{slicesHold}
-use Rattle.kept_list.specs.Lent.{Lent, entries, written}
+use Rattle.kept_list.specs.Lent.{entries, written}
 use Rattle.probing.specs.declared.Answer.{Answer}
 use Rattle.probing.specs.declared.Answer.the-variants.{Refused, Stopped, Found}
 use Rattle.probing.specs.Probing.{Given, State, state, Reached, goesOn, stopsAt, sweep}
-use Rattle.probing.specs.Ranges.{rangeReading}
+use Rattle.evaluating.specs.declared.RangeReading.{RangeReading}
+use Rattle.evaluating.specs.declared.Turn.{Turn}
+use Rattle.evaluating.specs.declared.Turn.the-variants as turns
+use Rattle.evaluating.specs.Ranges.{rangeReading}
+pub use Rattle.evaluating.specs.Postings.{Lends, lends}
+pub use Rattle.sweeping.specs.Turns.{listed}
 
 -- an answer in document 01's terms: the number of the refusal, or 0, and the values that go with it
 pub record InNumbers : Type 0 where
@@ -39,19 +42,11 @@ pub record Terms : Type 0 where
 abbrev pub terms : List ℕ → List Float → List ℕ → List Float → Terms
 terms qs ws cs vs = record { queryComponents = qs; queryValues = ws; components = cs; values = vs }
 
-abbrev pub readIn : Terms → ℕ → Rattle.probing.specs.declared.RangeReading.RangeReading
+abbrev pub readIn : Terms → ℕ → RangeReading
 readIn t = rangeReading (t .queryComponents) (t .queryValues) (t .components) (t .values)
 
 abbrev pub given : ℕ → Float → Terms → List ℕ → List ℕ → List Float → Given
 given k factor t ps os xs = record { k = k; factor = factor; postings = ps; offsets = os; blockScores = xs; read = readIn t }
-
--- what is lent: the kept list and the visit bytes
-pub record Lends : Type 0 where
-  pub kept : Lent
-  pub visits : List ℕ
-
-abbrev pub lends : Lent → List ℕ → Lends
-lends l v = record { kept = l; visits = v }
 
 pub record Left : Type 0 where
   pub answer : Answer
@@ -89,9 +84,10 @@ ifAccepted (verdict.Refused r) done l = left (Refused r) l
 abbrev pub opened : Terms → Lends → State
 opened t l = state (entries (l .kept)) (bytesOf t (l .visits)) 0 0
 
--- the blocks of so many turns: in the order given as far as it goes, and then in number order
-abbrev pub listed : List ℕ → ℕ → List ℕ
-listed order n = map (λ i. getD order i i) (from 0 n)
+-- the answer to where the turns came, with so many kept
+abbrev pub answerOf : Turn → ℕ → Answer
+answerOf (turns.On c) n = Found n (c .evaluated) (c .skipped)
+answerOf (turns.Stopped r i) n = Stopped r i
 
 -- the blocks have their turns in the order given
 unfoldable pub probed : ℕ → Float → Terms → List ℕ → List ℕ → List Float → List ℕ → Lends → Left

@@ -1,6 +1,6 @@
 -- What a search does once its input is accepted and the blocks have their scores and their order: document 01, "Search".
 use Prim.Native.Nat.{ℕ, _+_, _-_, min}
-use mathlib.Core.Bool.{Bool, true, false, not, _&&_, cond}
+use mathlib.Core.Bool.{Bool, _&&_, cond}
 use mathlib.Core.List.{List, [], _∷_}
 use lib.ListN.{length, getD, set}
 use lib.Dec.{eqb}
@@ -8,12 +8,11 @@ use lib.Ieee.{Float, nan, binary32, lt, mul}
 use Rattle.lists.specs.Lists.{from}
 use Rattle.packing.specs.Packing.{startOf}
 use Rattle.refusal.specs.declared.Refusal.{Refusal}
-use Rattle.refusal.specs.declared.Refusal.the-variants.{PastTheTerms, WrongTerms}
 use Rattle.kept_list.specs.declared.Scored.{Scored}
 use Rattle.kept_list.specs.Keep.{keep}
 use Rattle.kept_list.specs.Entry.{scored, better}
-use Rattle.probing.specs.declared.RangeReading.{RangeReading}
-use Rattle.probing.specs.declared.RangeReading.the-variants.{ReachesPast, Breaks, Score}
+use Rattle.evaluating.specs.declared.RangeReading.{RangeReading}
+pub use Rattle.evaluating.specs.Outcomes.{Place, Outcome, passed, stopped, found, visited, ofReading, outcomeOf}
 
 -- what a search is given and does not change: `read` is what reading a posting's range gives
 pub record Given : Type 0 where
@@ -35,32 +34,11 @@ abbrev pub state : List Scored → List ℕ → ℕ → ℕ → State
 state es v n m = record { kept = es; visits = v; evaluated = n; skipped = m }
 
 -- ---- one posting: only unvisited starts are read
--- where a posting lies: its position among the packed postings
-abbrev pub Place : Type 0
-Place = ℕ
-
-pub data Outcome : Type 0 where
-  passed : Outcome
-  stopped : Refusal → Outcome
-  found : Scored → Outcome
-
 abbrev pub packedAt : Given → Place → ℕ
 packedAt g i = getD (g .postings) i 0
 
 abbrev pub startAt : Given → Place → ℕ
 startAt g i = startOf (packedAt g i)
-
--- nonzero is visited; a start with no byte counts as unvisited
-abbrev pub visited : List ℕ → ℕ → Bool
-visited visits p = not (eqb (getD visits (startOf p) 0) 0)
-
-abbrev pub ofReading : ℕ → RangeReading → Outcome
-ofReading p ReachesPast = stopped PastTheTerms
-ofReading p Breaks = stopped WrongTerms
-ofReading p (Score x) = found (scored p x)
-
-abbrev pub outcomeOf : (ℕ → RangeReading) → List ℕ → ℕ → Outcome
-outcomeOf read visits p = cond (visited visits p) passed (ofReading p (read p))
 
 abbrev pub outcome : Given → List ℕ → Place → Outcome
 outcome g visits i = outcomeOf (g .read) visits (packedAt g i)

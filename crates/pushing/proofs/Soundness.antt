@@ -11,12 +11,13 @@ use lib.Dec.{T, ltb, eqb}
 use lib.Ieee.{Float, nan, inf, fin, isNan, eq, up, down, fits, binary32}
 use borrow.Author.Tests.{lt-ltb, eq-eqb}
 use Rattle.lists.specs.Lists.{every}
+use Rattle.lists.specs.Laws.{both, decide}
 use Rattle.float32.specs.Key.{keyOf}
 use Rattle.float32.specs.Tests.{yes}
 use Rattle.float32.specs.KeyLaws.{key-of-nan, key-number}
 use Rattle.kept_list.specs.declared.Scored.{Scored}
 use Rattle.kept_list.specs.Keep.{noLater, inOrder}
-use Rattle.kept_list.specs.Order.{decide, both, is-not, Order}
+use Rattle.kept_list.specs.Order.{is-not, Order}
 use Rattle.kept_list.specs.Sorted.{none-weak}
 use Rattle.kept_list.specs.Entry.{better, better-order}
 use Rattle.kept_list.specs.Lent.{lent, entryAt, beside, entries}

@@ -7,12 +7,12 @@ use lib.ListN.{length}
 use lib.Ieee.{Float, eq}
 use lib.Dec.{leb}
 use borrow.Author.Tests.{leb-true, eq-eqb, ne-eqb, not-true, not-false}
+use Rattle.lists.specs.Laws.{both}
 use Rattle.refusal.specs.declared.Refusal.{Refusal}
 use Rattle.refusal.specs.declared.Refusal.the-variants.{NothingToKeep, WrongKeptList, BufferTooShort}
 use Rattle.refusal.specs.declared.Verdict.{Verdict}
 use Rattle.refusal.specs.declared.Verdict.the-variants.{Accepted, Refused}
 use Rattle.kept_list.specs.declared.Scored.{Scored}
-use Rattle.kept_list.specs.Order.{both}
 use Rattle.kept_list.specs.Lent.{Lent, lent, entries, settled}
 use Rattle.kept_list.specs.Push.{isNumber, sound, wellKept, verdictOf, left, ifAccepted, pushed}
 use Rattle.pushing.proofs.Soundness.{eq-self}

@@ -10,11 +10,11 @@ use lib.Ieee.{Float, nan, binary32, isNan, mul}
 use lib.Ieee.Scale.{finite}
 use borrow.Author.Tests.{eqb-true}
 use Rattle.lists.specs.Lists.{EachOf, those, every, between, joined, withKey, strictlyRise}
+use Rattle.lists.specs.Laws.{both}
 use Rattle.float32.specs.Bound.{inBound, Bounded}
 use Rattle.float32.specs.BoundLaws.{in-bound-bounded}
 use Rattle.float32.specs.Sums.{Within, within-finite, within-no-nan, read-product-within}
 use Rattle.documents.specs.Documents.{Term, dot}
-use Rattle.documents.specs.Laws.{both}
 use Rattle.quantizing.specs.Quantizing.{minimumAllowed, stepAllowed}
 use Rattle.quantizing.specs.Extremes.{F32}
 use Rattle.quantizing.specs.Promises.{read-back-bound}

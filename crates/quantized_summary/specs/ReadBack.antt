@@ -10,8 +10,8 @@ use lib.Ieee.{Float, binary32, mul}
 use borrow.Author.Tests.{ltb-true, le-leb, lt-leb, eq-eqb, ne-eqb}
 use Rattle.lists.specs.Lists.{between, joined, withKey, strictlyRise}
 use Rattle.lists.specs.Groups.{Against, less, same, more, against, those-append}
+use Rattle.lists.specs.Laws.{both}
 use Rattle.documents.specs.Documents.{Term, term, sum, valuesAt, dot}
-use Rattle.documents.specs.Laws.{both}
 use Rattle.quantized_summary.specs.Layout.{Layout, Entry, entries, placeOf, entriesAt, entriesOf}
 use Rattle.quantized_summary.specs.Scores.{valueOf, addedBy, scoreOf}
 

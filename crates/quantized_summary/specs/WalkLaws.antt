@@ -1,5 +1,5 @@
 -- The walk's scores are the definition's: each score by itself, over the query's terms. Assumes nothing.
-use Prim.Native.Nat.{ℕ, zero, suc, _+_, _-_, _≤_, _<_, min}
+use Prim.Native.Nat.{ℕ, suc, _+_, _-_, _≤_, _<_, min}
 use native.Mathlib.Omega.{arith}
 use native.Mathlib.Nat.{min-le-right}
 use native.Mathlib.Decide.{decLe}
@@ -13,6 +13,7 @@ use lib.Dec.{ltb, eqb}
 use lib.Ieee.{Float, nan, fin, binary32, add, mul}
 use borrow.Author.Tests.{ltb-true, lt-ltb, eqb-true, eqb-false}
 use Rattle.lists.specs.Lists.{joined, from, withKey}
+use Rattle.lists.specs.Laws.{from-length, from-at}
 use Rattle.documents.specs.Documents.{Term}
 use Rattle.quantizing.specs.Quantizing.{readBack}
 use Rattle.quantized_summary.specs.Layout.{Layout, Entry, entriesOf}
@@ -115,16 +116,6 @@ module _ {A : Type 0} (d : A) (xs buffer : List A) where
     where
       all : (a b : ℕ) → min a b + (a - b) ≡ a
       all a b = omega arith
-
--- so many numbers from a on
-from-length : (a n : ℕ) → length (from a n) ≡ n
-from-length a zero = refl
-from-length a (suc n) = ap suc (from-length (suc a) n)
-
-from-at : {B : Type 0} (f : ℕ → B) (d : B) (a n i : ℕ) → i < n → getD (map f (from a n)) i d ≡ f (a + i)
-from-at f d a zero i h = let z : ⊥ = omega arith in absurd z
-from-at f d a (suc n) zero h = let z : a + 0 ≡ a = omega arith in rw z
-from-at f d a (suc n) (suc i) h = let z : a + suc i ≡ suc a + i = omega arith in from-at f d (suc a) n i (omega arith) ∙ ap f (sym z)
 
 score-is : (l : Layout) (query : List Term) (s : ℕ) → plus (fin false 0 (pos 0)) (joined (map (addedBy l s) query)) ≡ scoreOf l query s
 unfolding scoreOf

@@ -17,7 +17,7 @@ use Rattle.float32.specs.Quotients.{quot, quot-near, quot-le, quot-zero, pow-ro
 use Rattle.float32.specs.Rounded.{Near}
 use Rattle.float32.specs.Rounding.{roundAway}
 use Rattle.float32.specs.RoundedUnits.{Whole, round-value, round-units}
-use Rattle.float32.specs.UnitSums.{Sum, Diff, sum-units, sub-units}
+use Rattle.float32.specs.UnitSums.{Sum, Diff, sum-units, sub-units, wide}
 use Rattle.float32.specs.Units.{one, one-pos, one-large, negative, mag, over, under, above, below, Ordered, mag-of, sign-of, value-of}
 use Rattle.quantizing.specs.Chain as chain
 use Rattle.quantizing.specs.Chain.{between, through, part, whole-diff}
@@ -25,10 +25,6 @@ use Rattle.quantizing.specs.Demand3.{leastStep, allowance}
 use Rattle.quantizing.specs.Quantizing.{stepOf, codeOf, readBack}
 use Rattle.quantizing.specs.Steps.{Step, finite-of, step-of-bounded, gap, sign-back}
 use Rattle.quantizing.specs.Nearest.{large, Half, half-of, nearestTo, byte-of, whole-value, equal-values}
-
--- what is in bound is far from overflow
-wide : (o n : ℕ) → n ≤ o * 2 ^ 32 → n ≤ o * 2 ^ 100
-wide o n h = omega arith
 
 -- 256 and less, in units
 quotient-room : (a s : ℕ) → a ≤ 256 * s → a * one ≤ 2 ^ 157 * s

@@ -20,7 +20,7 @@ use Rattle.reasons.specs.declared.TurnSeen.the-variants.{Taken}
 use Rattle.reasons.specs.declared.Probed.{Probed}
 use Rattle.reasons.specs.declared.Fate.{Fate}
 use Rattle.reasons.specs.declared.Fate.the-variants.{InNoBlock, VisitedBefore, Read}
-use Rattle.reasons.specs.Turns.{Seen, seen, turnSeen}
+use Rattle.reasons.specs.Turns.{seen, turnSeen}
 use Rattle.reasons.specs.Reasons.{turnOf, reachedFate, fated, fatedThen, fatedIn, searched, turnFate, probedOf, probedBlock, atTurn, fateAt, fateOf}
 
 pub fate-reached : (a : Answer) (p : ℕ) (visits : List ℕ) (u : UnpackedRange) (v w : Bool) {n e s : ℕ}

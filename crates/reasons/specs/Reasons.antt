@@ -1,17 +1,15 @@
 -- What becomes of a posting in a search. Document 01, "Search".
 use Prim.Native.Nat.{ℕ, _+_, min}
-use mathlib.Core.Bool.{Bool, true, false, not, _&&_, cond}
+use mathlib.Core.Bool.{Bool, false, not, _&&_, cond}
 use mathlib.Core.List.{List, [], _∷_}
 use lib.ListN.{length, getD}
 use lib.Dec.{eqb, leb, ltb}
 use lib.Ieee.{Float, binary32, ofBits}
 use Rattle.lists.specs.Lists.{before}
-use Rattle.packing.specs.Packing.{startOf}
 use Rattle.probing.specs.declared.Answer.{Answer}
 use Rattle.probing.specs.declared.Answer.the-variants.{Refused, Stopped, Found}
 use Rattle.probing.specs.Probing.{visited}
 use Rattle.probing.specs.Probed.{Terms, Lends, Left, bytesOf, listed, probed}
-use Rattle.reasons.specs.declared.Turn.{Turn}
 use Rattle.reasons.specs.declared.TurnSeen.{TurnSeen}
 use Rattle.reasons.specs.declared.TurnSeen.the-variants.{NotTaken, Taken}
 use Rattle.reasons.specs.declared.Probed.{Probed}

@@ -2,19 +2,14 @@
 use Prim.Native.Nat.{ℕ, zero, suc, _+_, _-_, _<_, _≤_}
 use native.Mathlib.Omega.{arith}
 use native.Mathlib.Numerals.{add-one}
-use mathlib.Core.Path.{_≡_, refl, sym, ap, _∙_}
-use mathlib.Core.Bool.{Bool, true, false, _&&_, cond}
+use mathlib.Core.Path.{_≡_, refl, ap, _∙_}
+use mathlib.Core.Bool.{false, _&&_}
 use mathlib.Core.List.{List, [], _∷_, _++_, append-nil}
 use lib.ListN.{length, take, drop, set, getD}
 use lib.Dec.{leb}
 use lib.Seq.{take-all, drop-length}
 use borrow.Author.Tests.{le-leb, lt-leb}
 use Rattle.recorded.specs.Words.{startOf, endOf, upTo, sliceAt, spread}
-
-pub past-end : {A : Type 0} (l : List A) (i : ℕ) (d : A) → length l ≤ i → d ≡ getD l i d
-past-end [] i d h = refl
-past-end (x ∷ l) zero d h = let z : ⊥ = omega arith in absurd z
-past-end (x ∷ l) (suc i) d h = past-end l i d (omega arith)
 
 -- ---- bounds
 -- what `limits` answers, over numbers that equal the words

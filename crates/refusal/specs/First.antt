@@ -58,6 +58,11 @@ faultless (t ∷ ts) h = go (t .fault) refl (faultless ts) h
     go true e f k = absurd (let z : _≡_ {A = Bool} true false = cc in true≢false z)
     go false e f k = (e, f k)
 
+-- tests one after the other find no fault where neither list does
+pub faultless-both : (a b : List Test) → Faultless (a ++ b) → Faultless a × Faultless b
+faultless-both [] b f = (tt, f)
+faultless-both (t ∷ a) b f = let r = faultless-both a b (f .1) in ((f .0, r .0), r .1)
+
 -- a refused call has a first test that finds its fault
 pub record FirstFault (ts : List Test) (r : Refusal) : Type 0 where
   pub before : List Test

@@ -1,19 +1,18 @@
 -- One pass over a slice of entries tells whether they are well kept: what kept_list shows of the two slices. Assumes nothing.
-use Prim.Native.Nat.{ℕ, zero, suc, _+_, _-_, _≤_, _<_}
+use Prim.Native.Nat.{ℕ, _+_, _-_, _≤_, _<_}
 use native.Mathlib.Omega.{arith}
 use native.Mathlib.Decide.{decLe}
 use mathlib.Core.Path.{_≡_, refl, sym, ap, _∙_, subst}
 use mathlib.Core.Bool.{Bool, true, false, not, _&&_, _||_}
-use mathlib.Core.Logic.{inl, inr}
 use mathlib.Core.List.{List, map}
 use lib.ListN.{length, getD, length-map}
 use lib.Dec.{T, leb, eqb}
-use lib.Ieee.{nan, eq, fits, binary32}
+use lib.Ieee.{eq, fits, binary32}
 use borrow.Author.Tests.{leb-true, eq-eqb, ne-eqb, le-leb, lt-leb}
+use Rattle.lists.specs.Laws.{both}
 use Rattle.kept_list.specs.declared.Scored.{Scored}
-use Rattle.kept_list.specs.Order.{both}
 use Rattle.kept_list.specs.Entry.{better}
-use Rattle.kept_list.specs.Lent.{lent, entryAt, packedOf, scoreOf, entries}
+use Rattle.kept_list.specs.Lent.{lent, packedOf, scoreOf, entries}
 use Rattle.kept_list.specs.Push.{sound, wellKept}
 use Rattle.pushing.proofs.Soundness.{Checking, check-start, check-next, check-end}
 use Rattle.pushing.proofs.Verdicts.{ill-held, well-kept-is}

@@ -1,18 +1,18 @@
 -- An entry goes up in a list of entries: what kept_list shows of the two slices, through the map between the two forms. Assumes nothing.
 use Prim.Native.Nat.{ℕ, zero, suc, _+_, _-_, _≤_, _<_}
 use native.Mathlib.Omega.{arith}
-use mathlib.Core.Path.{_≡_, refl, sym, ap, _∙_, subst}
-use mathlib.Core.Bool.{Bool, true, false, _&&_}
+use mathlib.Core.Path.{_≡_, refl, ap, _∙_}
+use mathlib.Core.Bool.{true, false, _&&_}
 use mathlib.Core.Logic.{inl, inr}
 use mathlib.Core.List.{List, [], _∷_, map}
 use lib.ListN.{length, getD, set, length-map, length-set}
 use lib.Dec.{ltb}
 use lib.Ieee.{Float}
 use borrow.Author.Tests.{ltb-true, ltb-false}
+use Rattle.lists.specs.Laws.{both, decide}
 use Rattle.kept_list.specs.declared.Scored.{Scored}
-use Rattle.kept_list.specs.Order.{decide, both}
 use Rattle.kept_list.specs.Entry.{better}
-use Rattle.kept_list.specs.Lent.{lent, entryAt, packedOf, scoreOf, inserted}
+use Rattle.kept_list.specs.Lent.{entryAt, packedOf, scoreOf, inserted}
 use Rattle.kept_list.proofs.Climbing.{Climbing, climb-start, climb-up, climb-stay, climb-top, laid-down}
 use Rattle.scored_list.specs.Entries.{noEntry, asLent}
 

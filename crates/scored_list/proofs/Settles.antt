@@ -1,5 +1,5 @@
 -- A push without its refusals on a slice of entries, by its cases: what kept_list shows of the two slices. Assumes nothing.
-use Prim.Native.Nat.{ℕ, zero, suc, _+_, _-_, _≤_, _<_, min}
+use Prim.Native.Nat.{ℕ, _-_, _≤_, _<_, min}
 use native.Mathlib.Omega.{arith}
 use native.Mathlib.Decide.{decLe}
 use mathlib.Core.Path.{_≡_, refl, sym, ap, _∙_}
@@ -8,12 +8,12 @@ use mathlib.Core.Logic.{inl, inr}
 use mathlib.Core.List.{List, map}
 use lib.ListN.{length, getD, length-map}
 use lib.Dec.{leb, ltb, eqb}
-use borrow.Author.Tests.{ltb-true, ltb-false, leb-true, eqb-true, lt-ltb, le-ltb, le-leb, lt-leb, eq-eqb, ne-eqb}
+use borrow.Author.Tests.{ltb-true, leb-true, eqb-true, lt-ltb, le-ltb, le-leb, lt-leb, eq-eqb}
+use Rattle.lists.specs.Laws.{both, decide}
 use Rattle.kept_list.specs.declared.Scored.{Scored}
-use Rattle.kept_list.specs.Order.{decide, both}
 use Rattle.kept_list.specs.Entry.{better}
 use Rattle.kept_list.specs.Place.{Starts}
-use Rattle.kept_list.specs.Lent.{lent, packedOf, scoreOf, inserted, settled}
+use Rattle.kept_list.specs.Lent.{packedOf, scoreOf, settled}
 use Rattle.kept_list.proofs.Settling.{Full, keeps-none, no-room, adds, not-full, at-k-stays, at-k-replaces}
 use Rattle.scored_list.specs.Entries.{noEntry, asLent, goesIn}
 use Rattle.scored_list.proofs.Rising.{entry-is}

@@ -3,19 +3,20 @@ use Prim.Native.Nat.{ℕ, suc, _+_, _-_, _≤_, _<_, min, max}
 use native.Mathlib.Omega.{arith}
 use native.Mathlib.Numerals.{add-one}
 use mathlib.Core.Path.{_≡_, sym, ap, _∙_, subst}
-use mathlib.Core.List.{List, [], _∷_, _++_, map}
-use lib.ListN.{length, getD, take, drop, length-append, length-take, length-drop, drop-of-length-le}
+use mathlib.Core.List.{List, map}
+use lib.ListN.{length, getD, take, drop, length-append, drop-of-length-le}
 use lib.Seq.{drop-cons, take-length}
 use Rattle.configuration.specs.declared.BlockingStrategy.{BlockingStrategy}
 use Rattle.configuration.specs.declared.BlockingStrategy.the-variants.{FixedSize, RandomKmeans}
 use Rattle.lists.specs.Lists.{joined, part}
+use Rattle.lists.specs.Laws.{part-length}
 use Rattle.documents.specs.declared.TermPlaces.{TermPlaces}
-use Rattle.documents.specs.Documents.{Documents, paired, terms}
+use Rattle.documents.specs.Documents.{Documents, terms}
 use Rattle.documents.specs.Answers.{placesOf}
 use Rattle.documents.specs.Places.{paired-count, terms-at, places-order}
 use Rattle.admission.specs.Admission.{centroidsUsed}
 use Rattle.admission.specs.Answers.{takenOf}
-use Rattle.building.specs.Needs.{Sizes, sizes, sizesFor, scratchNeeds}
+use Rattle.building.specs.Needs.{sizes, sizesFor, scratchNeeds}
 use Rattle.scratch.specs.declared.ScratchLengths.{ScratchLengths}
 use Rattle.scratch.specs.Lengths.{capped, shown}
 
@@ -45,9 +46,6 @@ capped-terms n c t d =
     again t = omega arith
 
 -- ---- the terms of the listed documents
-part-length : {A : Type 0} (s n : ℕ) (l : List A) → s + n ≤ length l → length (part s n l) ≡ n
-part-length s n l h = length-take n (drop s l) ∙ let e = length-drop s l in omega arith
-
 abbrev total : Documents → List ℕ → ℕ
 total d is = length (joined (map (terms d) is))
 

@@ -1,22 +1,21 @@
 -- A search as a whole: refused as its tests say, or scored and probed. Assumes nothing.
-use Prim.Native.Nat.{ℕ, zero, suc, _+_, _≤_, _<_, min}
+use Prim.Native.Nat.{ℕ, suc, _+_, _≤_, min}
 use native.Mathlib.Omega.{arith}
-use mathlib.Core.Path.{_≡_, refl, sym, ap, _∙_}
-use mathlib.Core.Bool.{Bool, true, false, not, _&&_, _||_, true≢false}
-use mathlib.Core.List.{List, [], _∷_, _++_, map}
+use mathlib.Core.Path.{_≡_, sym, ap, _∙_}
+use mathlib.Core.Bool.{Bool, true, false, not, _&&_, _||_}
+use mathlib.Core.List.{List, [], _∷_, _++_}
 use lib.ListN.{length, take, drop}
 use lib.Dec.{eqb, leb, ltb}
-use lib.Ieee.{Float, nan}
-use borrow.Author.Tests.{eqb-true, leb-true, ltb-true, le-ltb, le-leb, lt-leb, eq-eqb, not-false}
-use Rattle.lists.specs.Lists.{from}
+use lib.Ieee.{Float}
+use borrow.Author.Tests.{eqb-true, leb-true, ltb-true, le-ltb, lt-leb, not-false}
+use Rattle.lists.specs.Laws.{both}
 use Rattle.refusal.specs.declared.Refusal.{Refusal}
 use Rattle.refusal.specs.declared.Refusal.the-variants.{NothingToKeep, WrongQuery, WrongDocuments, MalformedList, WrongKeptList, BufferTooShort}
 use Rattle.refusal.specs.declared.Verdict.{Verdict}
 use Rattle.refusal.specs.declared.Verdict.the-variants as verdict
-use Rattle.refusal.specs.First.{_gives_, firstOf, Faultless, faultless, accepted-by}
+use Rattle.refusal.specs.First.{_gives_, firstOf, faultless, accepted-by}
 use Rattle.documents.specs.Checks.{slicesHold}
 use Rattle.documents.specs.Documents.{Term, paired}
-use Rattle.documents.specs.Laws.{both}
 use Rattle.kept_list.specs.Lent.{Lent, entries, places}
 use Rattle.kept_list.specs.Push.{sound, wellKept}
 use Rattle.quantized_summary.specs.Layout.{Layout}
@@ -24,7 +23,7 @@ use Rattle.quantized_summary.specs.Scores.{scoresOf, putIn}
 use Rattle.quantized_summary.specs.WalkLaws.{scores-length}
 use Rattle.quantized_summary.specs.WellFormed.{blocksHold, lengthsHold, wellFormed}
 use Rattle.probing.specs.declared.Answer.the-variants.{Refused}
-use Rattle.probing.specs.Probed.{Terms, Lends, Left, left, laid, listed, probed, tests as probingTests}
+use Rattle.probing.specs.Probed.{Lends, Left, left, laid, listed, probed, tests as probingTests}
 use Rattle.search.specs.Order.{byScore}
 use Rattle.search.specs.Searched.{Question, blockCount, scoresFor, swept, room, tests, scorePlaces, leaves, searched, orderPlaces, leavesInOrder, searchedInOrder}
 use Rattle.search.specs.Numbers.{numbersLeft, Slices, searched-numbers, ordered-numbers}

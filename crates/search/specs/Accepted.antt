@@ -8,16 +8,16 @@ use lib.Dec.{leb}
 use borrow.Author.Tests.{leb-true}
 use native.Mathlib.Omega.{arith}
 use Rattle.lists.specs.Lists.{every, part}
+use Rattle.lists.specs.Laws.{both}
 use Rattle.packing.specs.Packing.{startOf, lengthOf}
 use Rattle.page.specs.Reading.{reading}
 use Rattle.kept_list.specs.Entry.{better}
 use Rattle.kept_list.specs.Keep.{inOrder}
 use Rattle.kept_list.specs.Lent.{Lent, entries, places}
 use Rattle.kept_list.specs.Laid.{length-beside}
-use Rattle.kept_list.specs.Order.{both}
 use Rattle.kept_list.specs.Push.{isNumber, sound, wellKept}
-use Rattle.probing.specs.declared.RangeReading.the-variants.{ReachesPast, Score}
-use Rattle.probing.specs.Ranges.{ofPage, rangeReading}
+use Rattle.evaluating.specs.declared.RangeReading.the-variants.{ReachesPast, Score}
+use Rattle.evaluating.specs.Ranges.{ofPage, rangeReading}
 use Rattle.probing.specs.Probed.{Terms, readIn}
 
 pub kept-sound : (k : ℕ) (m : Lent) → wellKept k m ≡ true → (inOrder better (entries m) ≡ true) × (length (entries m) ≤ k)

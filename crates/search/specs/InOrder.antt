@@ -9,7 +9,7 @@ use Rattle.kept_list.specs.Keep.{keep}
 use Rattle.kept_list.specs.Entry.{better}
 use Rattle.refusal.specs.declared.Refusal.{Refusal}
 use Rattle.probing.specs.Probing.{Place, Given, State, state, Outcome, passed, stopped, found, outcome, startAt, Reached, goesOn, stopsAt, andThen, evaluate, probe, skips, positions, turn, passOver, sweep}
-use Rattle.search.specs.Trace.{Event, at, Turn, skippedBlock, probedBlock, unlessStopped, marking, events, unlessStops, turnOf, turns, positionOf, blockOf, after}
+use Rattle.search.specs.Trace.{Event, at, Turn, skippedBlock, probedBlock, unlessStopped, marking, events, unlessStops, turnOf, turns, positionOf, blockOf}
 use Rattle.search.specs.Told.{nil-cut}
 
 abbrev pub stopsIn : List Event → Bool

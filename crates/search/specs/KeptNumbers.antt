@@ -10,6 +10,7 @@ use lib.Dec.{leb, eqb}
 use lib.Ieee.{Float, isNan}
 use borrow.Author.Tests.{not-false}
 use Rattle.lists.specs.Lists.{every, part}
+use Rattle.lists.specs.Laws.{both}
 use Rattle.refusal.specs.declared.Refusal.{Refusal}
 use Rattle.refusal.specs.declared.Refusal.the-variants.{PastTheTerms, WrongTerms}
 use Rattle.refusal.specs.declared.Verdict.the-variants.{Accepted}
@@ -18,7 +19,6 @@ use Rattle.float32.specs.Tests.{is-true}
 use Rattle.packing.specs.Packing.{startOf, lengthOf}
 use Rattle.documents.specs.Documents.{paired, dot}
 use Rattle.documents.specs.Checks.{slicesHold}
-use Rattle.documents.specs.Laws.{both}
 use Rattle.kept_list.specs.declared.Scored.{Scored}
 use Rattle.kept_list.specs.Entry.{better, scored}
 use Rattle.kept_list.specs.Keep.{keep, keepAll}
@@ -26,13 +26,13 @@ use Rattle.kept_list.specs.Lent.{entries}
 use Rattle.kept_list.specs.Laid.{entries-written}
 use Rattle.kept_list.specs.Push.{isNumber, wellKept}
 use Rattle.kept_list.specs.Told.{numbers-kept}
-use Rattle.kept_list.specs.WellKept.{WellKept, well-kept}
+use Rattle.kept_list.specs.WellKept.{well-kept}
 use Rattle.page.specs.Reading.{reading}
 use Rattle.page.specs.declared.Reading.the-variants as page
-use Rattle.probing.specs.declared.RangeReading.{RangeReading}
-use Rattle.probing.specs.declared.RangeReading.the-variants.{ReachesPast, Breaks, Score}
-use Rattle.probing.specs.Ranges.{ofPage, rangeReading}
-use Rattle.probing.specs.Probing.{Given, State, Outcome, passed, stopped, found, outcome, ofReading, packedAt, startAt, Reached, goesOn, stopsAt, left}
+use Rattle.evaluating.specs.declared.RangeReading.{RangeReading}
+use Rattle.evaluating.specs.declared.RangeReading.the-variants.{ReachesPast, Breaks, Score}
+use Rattle.evaluating.specs.Ranges.{ofPage, rangeReading}
+use Rattle.probing.specs.Probing.{Given, State, passed, stopped, found, outcome, ofReading, packedAt, startAt, Reached, goesOn, stopsAt, left}
 use Rattle.probing.specs.Probed.{Terms, Lends, readIn, bytesOf, laid, opened}
 use Rattle.search.specs.Searched.{Question, givenFor, swept, tests}
 use Rattle.search.specs.Trace.{Event, at, turns, entriesOf, eventsOf}

@@ -8,8 +8,8 @@ use mathlib.Core.Logic.{_↔_}
 use lib.ListN.{getD, set}
 use lib.Dec.{eqb}
 use borrow.Author.Tests.{eq-eqb, ne-eqb}
-use Rattle.probing.specs.declared.RangeReading.{RangeReading}
-use Rattle.probing.specs.declared.RangeReading.the-variants.{ReachesPast, Breaks, Score}
+use Rattle.evaluating.specs.declared.RangeReading.{RangeReading}
+use Rattle.evaluating.specs.declared.RangeReading.the-variants.{ReachesPast, Breaks, Score}
 use Rattle.probing.specs.Probing.{Place, Given, State, Outcome, passed, stopped, found, ofReading, outcome, packedAt, startAt, Reached, goesOn, stopsAt, skips, positions, turn}
 use Rattle.search.specs.Trace.{Event, at, Turn, skippedBlock, probedBlock, unlessStopped, marking, events, unlessStops, turnOf, turns, startsOf, marked, after}
 use Rattle.search.specs.Told.{nil-cut, turn-then}

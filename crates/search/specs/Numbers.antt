@@ -1,9 +1,9 @@
 -- No score that an accepted search leaves is a NaN, neither of the blocks' nor of the kept ones. It asks only what every slice satisfies by
 -- its type: an f32 at each place of a slice of f32, a number below 256 at each place of a slice of bytes. Assumes nothing.
-use Prim.Native.Nat.{ℕ, suc, _≤_, _<_, min}
+use Prim.Native.Nat.{ℕ, suc, _≤_, _<_}
 use native.Mathlib.Omega.{arith}
 use mathlib.Core.Path.{_≡_, refl, sym, ap, _∙_, subst}
-use mathlib.Core.Bool.{Bool, true, false, not, _&&_}
+use mathlib.Core.Bool.{Bool, true, not, _&&_}
 use mathlib.Core.List.{List, [], _∷_, _++_, zipWith}
 use lib.ListN.{length, getD, take, drop}
 use lib.Seq.{take-all, take-at}
@@ -11,12 +11,12 @@ use lib.Dec.{T, leb, ltb}
 use lib.Ieee.{Float, nan, isNan}
 use borrow.Author.Tests.{leb-true, not-false}
 use Rattle.lists.specs.Lists.{EachOf, every, from}
+use Rattle.lists.specs.Laws.{both}
 use Rattle.refusal.specs.declared.Verdict.{Verdict}
 use Rattle.refusal.specs.declared.Verdict.the-variants as verdict
 use Rattle.refusal.specs.First.{firstOf, Faultless, faultless}
 use Rattle.float32.specs.Tests.{is-true}
-use Rattle.documents.specs.Documents.{Term, paired}
-use Rattle.documents.specs.Laws.{both}
+use Rattle.documents.specs.Documents.{paired}
 use Rattle.kept_list.specs.Lent.{Lent, entries, places}
 use Rattle.kept_list.specs.Push.{isNumber}
 use Rattle.quantizing.specs.Demand3.{F32s}
@@ -24,7 +24,7 @@ use Rattle.quantizing.specs.Extremes.{F32, each-f32}
 use Rattle.quantized_summary.specs.Scores.{putIn}
 use Rattle.quantized_summary.specs.WalkLaws.{scores-length}
 use Rattle.quantized_summary.specs.WellFormed.{wellFormed}
-use Rattle.quantized_summary.specs.Promises.{Typed, Parts, parts}
+use Rattle.quantized_summary.specs.Promises.{Typed, parts}
 use Rattle.probing.specs.declared.Answer.{Answer}
 use Rattle.probing.specs.declared.Answer.the-variants.{Refused, Stopped, Found}
 use Rattle.probing.specs.Probed.{Lends, Left, laid}

@@ -12,8 +12,8 @@ use Rattle.lists.specs.Lists.{among}
 use Rattle.refusal.specs.declared.Refusal.{Refusal}
 use Rattle.refusal.specs.declared.Refusal.the-variants.{PastTheTerms, WrongTerms}
 use Rattle.kept_list.specs.declared.Scored.{Scored}
-use Rattle.probing.specs.declared.RangeReading.{RangeReading}
-use Rattle.probing.specs.declared.RangeReading.the-variants.{ReachesPast, Breaks, Score}
+use Rattle.evaluating.specs.declared.RangeReading.{RangeReading}
+use Rattle.evaluating.specs.declared.RangeReading.the-variants.{ReachesPast, Breaks, Score}
 use Rattle.probing.specs.Probing.{Place, Given, State, Outcome, passed, stopped, found, outcome, ofReading, packedAt, startAt, Reached, goesOn, stopsAt, probe, skips, positions, passOver, left}
 use Rattle.search.specs.Trace.{Event, at, skippedBlock, probedBlock, unlessStopped, marking, events, unlessStops, turns, startsOf, placesOf, eventsOf, distinct, marked}
 use Rattle.search.specs.Told.{probe-told}

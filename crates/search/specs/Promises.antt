@@ -7,10 +7,11 @@ use lib.ListN.{length, getD, take}
 use lib.Seq.{length-take-le}
 use lib.Ieee.{Float, nan, binary32, lt, mul}
 use lib.Dec.{eqb, leb, ltb}
-use borrow.Author.Tests.{eqb-true, eq-eqb, ne-eqb, leb-false, ltb-true, le-leb, not-false}
+use borrow.Author.Tests.{eqb-true, eq-eqb, leb-false, ltb-true, le-leb, not-false}
 use native.Mathlib.Omega.{arith}
 use Rattle.lists.specs.Lists.{from, among}
 use Rattle.lists.specs.Sorted.{InOrder, sort-in-order, sort-permutes}
+use Rattle.lists.specs.Laws.{both}
 use Rattle.refusal.specs.declared.Verdict.the-variants.{Accepted}
 use Rattle.refusal.specs.First.{firstOf, Faultless, faultless}
 use Rattle.float32.specs.Order.{atMost}
@@ -23,12 +24,11 @@ use Rattle.search.specs.Searched.{Question, givenFor, swept, room, tests
 use mathlib.Core.Logic.{_↔_, _⊎_, inl, inr}
 use Rattle.refusal.specs.declared.Refusal.{Refusal}
 use Rattle.kept_list.specs.declared.Scored.{Scored}
-use Rattle.kept_list.specs.Keep.{keepAll, kBest, inOrder}
+use Rattle.kept_list.specs.Keep.{kBest, inOrder}
 use Rattle.kept_list.specs.Best.{k-best}
-use Rattle.kept_list.specs.Order.{both}
 use Rattle.kept_list.specs.Entry.{better, better-order}
-use Rattle.probing.specs.Probing.{Place, packedAt, worst, Given, State, Outcome, passed, stopped, found, outcome, startAt, Reached, goesOn, stopsAt, skips, positions, sweep, left}
-use Rattle.search.specs.Trace.{Event, at, Turn, skippedBlock, probedBlock, events, turns, entriesOf, startsOf, placesOf, positionOf, blockOf, eventsOf, skippedIn, distinct, marked, after}
+use Rattle.probing.specs.Probing.{Place, packedAt, worst, Given, State, Outcome, passed, stopped, outcome, startAt, Reached, goesOn, stopsAt, skips, positions, sweep, left}
+use Rattle.search.specs.Trace.{Event, at, Turn, skippedBlock, probedBlock, turns, entriesOf, startsOf, placesOf, positionOf, blockOf, eventsOf, skippedIn, distinct, marked, after}
 use Rattle.search.specs.Told.{sweep-told, marked-events}
 use Rattle.search.specs.Moments.{passed-iff, event-right, turn-right}
 use Rattle.search.specs.InOrder.{events-in-order, events-all, turns-in-order, turns-all, stopsIn, no-stop-before, no-stop-on, stop-is-last}

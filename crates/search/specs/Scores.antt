@@ -1,17 +1,18 @@
 -- The scores of an accepted search are sums from +0 over the query's components, and never a NaN: of blocks, where the stored arrays are
 -- f32 and bytes as their types say, and of pages, whatever they hold. Assumes nothing.
-use Prim.Native.Nat.{ℕ, _*_, _^_, _≤_, _<_, min}
+use Prim.Native.Nat.{ℕ, _*_, _^_, _≤_, _<_}
 use native.Mathlib.Nat.{le-trans, le-of-eq, mul-le-mul, mul-le-mul-right, mul-pos}
 use native.Mathlib.Omega.{arith}
 use mathlib.Core.Path.{_≡_, refl, sym, ap, _∙_, subst}
-use mathlib.Core.Bool.{Bool, true, false, not, _&&_, cond, true≢false}
+use mathlib.Core.Bool.{Bool, true, false, not, cond, true≢false}
 use mathlib.Core.List.{List, [], _∷_, _++_, map}
 use lib.ListN.{length}
-use lib.Dec.{T, leb, eqb, lit≤}
+use lib.Dec.{T, eqb, lit≤}
 use lib.Ieee.{Float, fin, inf, nan, binary32, isNan, mul, up, down, unlike}
 use lib.Ieee.Fits.{down-pos}
 use borrow.Author.Tests.{not-false, leb-true}
 use Rattle.lists.specs.Lists.{EachOf, those, every, strictlyRise}
+use Rattle.lists.specs.Laws.{both}
 use Rattle.refusal.specs.declared.Verdict.the-variants.{Accepted}
 use Rattle.refusal.specs.First.{firstOf, faultless}
 use Rattle.float32.specs.Units.{one}
@@ -20,12 +21,11 @@ use Rattle.float32.specs.Operations.{mul-by}
 use Rattle.float32.specs.Sums.{Within, within-no-nan, wider, round-within, power-room}
 use Rattle.documents.specs.Documents.{Term, paired, valuesAt, products, dot}
 use Rattle.documents.specs.Checks.{termsHold, slicesHold}
-use Rattle.documents.specs.Laws.{both}
 use Rattle.quantized_summary.specs.Scores.{scoreOf}
 use Rattle.quantized_summary.specs.Stays.{products-stay}
 use Rattle.quantized_summary.specs.WalkLaws.{scores-at}
 use Rattle.quantized_summary.specs.WellFormed.{wellFormed}
-use Rattle.quantized_summary.specs.Promises.{Typed, Parts, parts, score-no-nan}
+use Rattle.quantized_summary.specs.Promises.{Typed, parts, score-no-nan}
 use Rattle.probing.specs.Probed.{Lends}
 use Rattle.search.specs.Order.{scoreAt}
 use Rattle.search.specs.Searched.{Question, blockCount, scoresFor, tests}

@@ -2,7 +2,7 @@
 use Prim.Native.Nat.{ℕ}
 use mathlib.Core.Path.{_≡_, refl}
 use mathlib.Core.List.{List, [], _∷_, zipWith}
-use lib.Ieee.{Float, nan, isNan, toBits, ofBits, binary32, le, lt, eq, neg, add, mul, ofInt}
+use lib.Ieee.{Float, isNan, toBits, ofBits, binary32, le, lt, eq, neg, add, mul, ofInt}
 use Rattle.lists.specs.Lists.{insertBy, sortedBy}
 use Rattle.refusal.specs.declared.Refusal.the-variants.{NothingToKeep, PastTheTerms, WrongTerms}
 use Rattle.float32.specs.Bound.{inBound}
@@ -20,10 +20,10 @@ use Rattle.quantized_summary.specs.Scores.{scoreOf, scoresOf}
 use Rattle.quantized_summary.specs.WellFormed.{blocksHold, lengthsHold, offsetsHold, idsHold, boundsHold, wellFormed}
 use Rattle.page.specs.Reading.{reading}
 use Rattle.probing.specs.declared.Answer.the-variants.{Refused, Stopped, Found}
-use Rattle.probing.specs.Ranges.{rangeReading}
+use Rattle.evaluating.specs.Ranges.{rangeReading}
 use Rattle.probing.specs.Probed.{terms, Lends, lends, left}
 use Rattle.search.specs.Order.{byScore}
-use Rattle.search.specs.Searched.{Question, question, Searched, leaves, searched, leavesInOrder, searchedInOrder}
+use Rattle.search.specs.Searched.{Question, question, leaves, searched, leavesInOrder, searchedInOrder}
 
 abbrev f : ℕ → Float
 f n = ofBits binary32 n

@@ -5,7 +5,7 @@ use mathlib.Core.List.{List}
 use lib.Dec.{eqb}
 use lib.Ieee.{Float}
 use Rattle.probing.specs.declared.Answer.{Answer}
-use Rattle.probing.specs.Probed.{Lends, Left}
+use Rattle.probing.specs.Probed.{Lends}
 use Rattle.search.specs.Searched.{Question, Searched, SearchedInOrder, searched, searchedInOrder}
 use Rattle.search_numbers.specs.Numbers.{answerNumber, positionOf, evaluatedOf, skippedOf}
 

@@ -1,9 +1,7 @@
 -- What building a short list leaves: a build with scratch for 64 documents, blocks and components, and for 512 terms of centroids.
 use Prim.Native.Nat.{ℕ}
-use mathlib.Core.Bool.{false}
 use mathlib.Core.List.{List}
 use lib.ListN.{replicate}
-use lib.IntN.{pos}
 use lib.Ieee.{Float, binary32, ofBits}
 use Rattle.building.specs.declared.BuildAnswer.{BuildAnswer}
 use Rattle.building.specs.Built.{Input}

@@ -12,13 +12,10 @@ use borrow.Author.Tests.{eqb-true, eqb-false}
 use lib.Ieee.{Float, nan, binary32, fits, add, mul}
 use lib.Ieee.Fits.{add-fits, nan-fits}
 use Rattle.lists.specs.Lists.{among}
+use Rattle.lists.specs.Laws.{neither}
 use Rattle.documents.specs.Documents.{Term, Documents, terms}
 use Rattle.centroid_index.specs.Index.{addEntry, addTerm, addTerms}
 use Rattle.slot_scores.specs.Met.{slotsOf, met, none, clearAt, clearMet}
-
-neither : (a b : Bool) → (a || b) ≡ false → (a ≡ false) × (b ≡ false)
-neither true b h = (h, absurd (let z : _≡_ {A = ℕ} 0 1 = cc in omega arith))
-neither false b h = (refl, h)
 
 among-append : (s : ℕ) (a b : List ℕ) → among s (a ++ b) ≡ (among s a || among s b)
 among-append s [] b = refl

@@ -15,7 +15,7 @@ use Rattle.assignment.specs.declared.Candidate.{Candidate}
 use Rattle.assignment.specs.Nearest.{candidate, lastFrom, lastNoLess}
 use Rattle.assignment.specs.Loops.{noMore, Fits, last-at}
 use Rattle.slot_scores.specs.declared.Best.{Best}
-use Rattle.slot_scores.specs.Met.{met, none, best, better, fromZero}
+use Rattle.slot_scores.specs.Met.{none, best, better, fromZero}
 use Rattle.slot_scores.specs.Loops.{best-above}
 use Rattle.slot_scores.specs.Kept.{Fitting, none-fits}
 use Rattle.slot_scores.specs.Covers.{same, other-way, through, raised, Covered, best-fits, covers}

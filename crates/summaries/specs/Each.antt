@@ -1,7 +1,7 @@
 -- What holds of each entry of a list. Assumes nothing.
 use Prim.Native.Nat.{ℕ, zero, suc, _<_}
 use native.Mathlib.Omega.{arith}
-use mathlib.Core.Path.{_≡_, refl, subst}
+use mathlib.Core.Path.{subst}
 use mathlib.Core.List.{List, [], _∷_, map, List·Permᴰ}
 use lib.ListN.{length, getD, take, drop}
 use Rattle.lists.specs.Lists.{EachOf}
@@ -26,11 +26,6 @@ module _ {A : Type 0} (P : A → Type 0) where
 pub each-map : {A B : Type 0} (P : A → Type 0) (Q : B → Type 0) (f : A → B) → ((x : A) → P x → Q (f x)) → (l : List A) → EachOf P l → EachOf Q (map f l)
 each-map P Q f g [] h = tt
 each-map P Q f g (x ∷ l) h = (g x (h .0), each-map P Q f g l (h .1))
-
-pub getD-map : {A B : Type 0} (f : A → B) (l : List A) (k : ℕ) (d : A) (e : B) → k < length l → getD (map f l) k e ≡ f (getD l k d)
-getD-map f [] k d e h = let z : ⊥ = omega arith in absurd z
-getD-map f (x ∷ l) zero d e h = refl
-getD-map f (x ∷ l) (suc k) d e h = getD-map f l k d e (omega arith)
 
 pub each-at : {A : Type 0} (P : A → Type 0) (l : List A) (k : ℕ) (d : A) → k < length l → EachOf P l → P (getD l k d)
 each-at P [] k d h e = let z : ⊥ = omega arith in absurd z

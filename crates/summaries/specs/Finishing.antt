@@ -9,6 +9,7 @@ use lib.Dec.{T, eqb}
 use lib.Ieee.{Float, binary32, fits, lt}
 use Rattle.lists.specs.Lists.{EachOf, rising, withKey}
 use Rattle.lists.specs.Sorted.{map-permutes, each-sortedBy}
+use Rattle.lists.specs.Laws.{permuted-length}
 use Rattle.sort.specs.Sorted.{sorted}
 use Rattle.sort.specs.Keys.{sorted-keys}
 use Rattle.sort.specs.Promises.{alike}
@@ -18,7 +19,7 @@ use Rattle.summaries.specs.Each.{each-permuted, each-map}
 use Rattle.documents.specs.TermKeys.{termKey, componentOf, Held, term-key-order}
 use Rattle.summaries.specs.Summaries.{maximum, maxima}
 use Rattle.summaries.specs.Steps.{keyOfPair}
-use Rattle.block_maximum.specs.Firsts.{but, firsts, firsts-permute, permuted-length}
+use Rattle.block_maximum.specs.Firsts.{but, firsts, firsts-permute}
 use Rattle.block_maximum.specs.Changes.{components, maximumOf}
 
 -- ---- the components as first met

@@ -2,7 +2,7 @@
 use Prim.Native.Nat.{ℕ, _<_}
 use mathlib.Core.Path.{_≡_, refl, sym, ap, _∙_, subst}
 use mathlib.Core.Bool.{Bool, true, false, _||_, cond}
-use mathlib.Core.List.{List, [], _∷_, _++_, map, foldl, zipWith, List·Permᴰ}
+use mathlib.Core.List.{List, [], _∷_, _++_, map, foldl, zipWith}
 use lib.ListN.{length, getD, take, drop, set, replicate, length-set, length-map}
 use lib.Seq.{take-at, drop-at, getD-set-same, getD-set-other, ext-getD}
 use lib.IntN.{pos}
@@ -10,8 +10,9 @@ use lib.Dec.{eqb}
 use lib.Ieee.{Float, fin}
 use borrow.Author.Tests.{eqb-true, eqb-false}
 use Rattle.lists.specs.Lists.{EachOf, among, rising}
-use Rattle.lists.specs.Groups.{among-rising, or-swap}
+use Rattle.lists.specs.Groups.{among-rising}
 use Rattle.lists.specs.Sorted.{sort-permutes, map-permutes}
+use Rattle.lists.specs.Laws.{among-permuted}
 use Rattle.sort.specs.Sorted.{sorted}
 use Rattle.documents.specs.Documents.{Term, term, greaterFirst, falling}
 use Rattle.documents.specs.TermKeys.{termKey, componentOf, valueOfTerm, Held, component-back, value-back}
@@ -39,12 +40,6 @@ module _ {A : Type 0} (g : A → ℕ) where
       go true e false = ap (λ k. getD (set l k 0) c 0) (sym (eqb-true c (g x) e)) ∙ getD-set-same l c 0 0 h
       go false e true = refl
       go false e false = getD-set-other l (g x) c 0 0 (eqb-false c (g x) e)
-
-pub among-permuted : (m : ℕ) {l r : List ℕ} → List·Permᴰ l r → among m l ≡ among m r
-among-permuted m List·Permᴰ.List·Permᴰ·nil = refl
-among-permuted m (List·Permᴰ.List·Permᴰ·cons e d) = λ i. eqb m (e i) || among-permuted m d i
-among-permuted m (List·Permᴰ.List·Permᴰ·swap {a = a} {b = b} {l = l} e f) = or-swap (eqb m a) (eqb m b) (among m l) ∙ (λ i. eqb m (f i) || (eqb m (e i) || among m l))
-among-permuted m (List·Permᴰ.List·Permᴰ·trans d e) = among-permuted m d ∙ among-permuted m e
 
 -- ---- what is read back from the keys of held terms
 components-back : (l : List Term) → EachOf Held l → map componentOf (map termKey l) ≡ components l

@@ -11,11 +11,11 @@ use borrow.Author.Tests.{le-leb, leb-true, leb-false, eqb-false, ne-eqb}
 use Rattle.lists.specs.Lists.{among, rising, sortedBy}
 use Rattle.lists.specs.Groups.{RisesFrom, rising-rises, not-among}
 use Rattle.lists.specs.Sorted.{InOrder, sort-in-order, sort-permutes, map-permutes}
+use Rattle.lists.specs.Laws.{or-left, or-right, among-permuted, among-take}
 use Rattle.documents.specs.Documents.{Term, term, Documents, greaterFirst, falling}
 use Rattle.configuration.specs.declared.SummarizationStrategy.{SummarizationStrategy}
-use Rattle.block_maximum.specs.Changes.{components, maximumOf, or-left, or-right}
+use Rattle.block_maximum.specs.Changes.{components, maximumOf}
 use Rattle.summaries.specs.Summaries.{blockTerms, maxima, blockMaximum, kept, lower, summary}
-use Rattle.summaries.specs.Left.{among-permuted}
 use Rattle.summaries.specs.Promises.{kept-first}
 
 abbrev pub NoRepeat : List ℕ → Type 0
@@ -35,11 +35,6 @@ once-permuted (List·Permᴰ.List·Permᴰ·swap {a = a} {b = b} {a′ = a′} {
     other : (eqb b a || among b l) ≡ false
     other = let n = h .1 .0 in rw (ne-eqb b a (λ g. eqb-false a b (or-left (eqb a b) (among a l) (h .0)) (sym g)), n)
 once-permuted (List·Permᴰ.List·Permᴰ·trans d e) h = once-permuted e (once-permuted d h)
-
-among-take : (m n : ℕ) (l : List ℕ) → among m l ≡ false → among m (take n l) ≡ false
-among-take m zero l h = refl
-among-take m (suc n) [] h = refl
-among-take m (suc n) (x ∷ l) h = let i = among-take m n l (or-right (eqb m x) (among m l) h) in let e = or-left (eqb m x) (among m l) h in rw (e, i)
 
 once-take : (n : ℕ) (l : List ℕ) → NoRepeat l → NoRepeat (take n l)
 once-take zero l h = tt

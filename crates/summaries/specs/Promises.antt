@@ -14,6 +14,7 @@ use Rattle.configuration.specs.declared.SummarizationStrategy.the-variants.{Fix
 use Rattle.lists.specs.Lists.{EachOf, before, among, rising}
 use Rattle.lists.specs.Groups.{among-rising}
 use Rattle.lists.specs.Sorted.{each-sortedBy}
+use Rattle.lists.specs.Laws.{map-at as getD-map}
 use Rattle.float32.specs.Order.{atMost}
 use Rattle.float32.specs.OrderLaws.{atMost-total}
 use Rattle.sort.specs.Sorted.{sorted}
@@ -23,7 +24,7 @@ use Rattle.documents.specs.Documents.{Term, term, Documents, sum, greaterFirst,
 use Rattle.documents.specs.TermKeys.{termKey, Held, term-key-order}
 use Rattle.block_maximum.specs.Changes.{components, maximumOf}
 use Rattle.summaries.specs.Summaries.{blockTerms, maxima, blockMaximum, runningSums, enough, preserving, kept, lower, summary}
-use Rattle.summaries.specs.Each.{each-take, each-at, getD-map}
+use Rattle.summaries.specs.Each.{each-take, each-at}
 
 -- ---- what is kept is the first so many, the greatest first
 pub kept-first : (s : SummarizationStrategy) (ts : List Term) → (n : ℕ) × (kept s ts ≡ take n (falling ts))

@@ -1,24 +1,24 @@
 -- The whole of summarizing a block, by what its parts did. Assumes nothing.
-use Prim.Native.Nat.{ℕ, suc, _≤_, _<_}
+use Prim.Native.Nat.{ℕ, _≤_, _<_}
 use native.Mathlib.Omega.{arith}
 use mathlib.Core.Path.{_≡_, refl, sym, ap, _∙_, subst}
 use mathlib.Core.Bool.{Bool, true, false, _||_, true≢false}
-use mathlib.Core.List.{List, [], _∷_, map, foldl, zipWith, map-append}
+use mathlib.Core.List.{List, [], _∷_, map, foldl, map-append}
 use lib.ListN.{length, getD, drop, replicate, length-append, length-map}
 use lib.Dec.{T, ltb, eqb}
 use lib.Ieee.{Float, nan, binary32, fits}
 use borrow.Author.Tests.{ltb-true, ltb-false, eqb-true}
 use Rattle.lists.specs.Lists.{EachOf, every, among}
+use Rattle.lists.specs.Laws.{both}
 use Rattle.refusal.specs.declared.Refusal.the-variants.{WrongTerms, BufferTooShort}
 use Rattle.refusal.specs.declared.Verdict.{Verdict}
 use Rattle.refusal.specs.declared.Verdict.the-variants as verdict
 use Rattle.documents.specs.Documents.{Term, paired, Documents, terms, start, size}
 use Rattle.documents.specs.Checks.{termsHold, termsHoldBelow, documentsHold}
-use Rattle.documents.specs.Laws.{both}
 use Rattle.documents.specs.Bounds.{each-append}
 use Rattle.documents.specs.Places.{terms-part}
 use Rattle.summaries.specs.Each.{each-take, each-drop}
-use Rattle.documents.specs.TermKeys.{Held}
+use Rattle.documents.specs.TermKeys.{Held, held-paired}
 use Rattle.configuration.specs.declared.SummarizationStrategy.{SummarizationStrategy}
 use Rattle.summaries.specs.declared.Summarized.the-variants.{Kept, Refused}
 use Rattle.summaries.specs.Summaries.{blockTerms, maxima}
@@ -33,12 +33,6 @@ use Rattle.block_maximum.specs.After.{AfterAll, all-met}
 use Rattle.summaries.specs.Left.{keys-end, places-end, maxima-end, answer-end}
 
 -- ---- terms as slices hold them
-held-paired : (cs : List ℕ) (vs : List Float) → ((k : ℕ) → getD cs k 0 < 4294967296) → ((k : ℕ) → T (fits binary32 (getD vs k nan))) → EachOf Held (paired cs vs)
-unfolding paired zipWith
-held-paired [] vs f g = tt
-held-paired (c ∷ cs) [] f g = tt
-held-paired (c ∷ cs) (v ∷ vs) f g = (record { narrow = f 0; fit = g 0 }, held-paired cs vs (λ k. f (suc k)) (λ k. g (suc k)))
-
 pub block-held : (d : Documents) (block : List ℕ) → ((k : ℕ) → getD (d .components) k 0 < 4294967296) → ((k : ℕ) → T (fits binary32 (getD (d .values) k nan))) → EachOf Held (blockTerms d block)
 block-held d [] f g = tt
 block-held d (i ∷ block) f g =

@@ -12,13 +12,12 @@ use lib.Ieee.{Float, nan}
 use borrow.Author.Tests.{not-false, leb-true, ltb-true, le-ltb, lt-leb}
 use Rattle.lists.specs.Lists.{EachOf, from}
 use Rattle.lists.specs.Sorted.{each-sortedBy}
+use Rattle.lists.specs.Laws.{both, from-at as made-at}
 use Rattle.refusal.specs.declared.Verdict.{Verdict}
 use Rattle.refusal.specs.declared.Verdict.the-variants as verdict
 use Rattle.refusal.specs.First.{firstOf, Faultless, faultless, accepted-by}
 use Rattle.kept_list.specs.Lent.{entries, places}
-use Rattle.kept_list.specs.Order.{both}
 use Rattle.kept_list.specs.Push.{sound, wellKept}
-use Rattle.block_maximum.specs.Firsts.{permuted-length}
 use Rattle.quantized_summary.specs.Scores.{putIn}
 use Rattle.quantized_summary.specs.WalkLaws.{scores-length, put-front}
 use Rattle.quantized_summary.specs.WellFormed.{wellFormed}
@@ -31,9 +30,9 @@ use Rattle.probing.specs.Probed as probing
 use Rattle.search.specs.Order.{noLater, byScore}
 use Rattle.search.specs.Searched.{Question, blockCount, scoresFor, givenFor, swept, room, tests, Searched, leaves, ifAccepted, scorePlaces, searched, SearchedInOrder, leavesInOrder, ifAcceptedInOrder, orderPlaces, searchedInOrder}
 use Rattle.search.specs.Scores.{queryOf}
-use Rattle.search.specs.Promises.{order-permutes}
 use Rattle.search.specs.Trace.{turns}
-use Rattle.told.specs.Cuts.{from-length, length-from}
+use Rattle.search.proofs.Keyed.{order-length}
+use Rattle.told.specs.Cuts.{length-from}
 use Rattle.told.specs.Telling.{Search, storyOf, answered, Ended, TellsTrue}
 use Rattle.told.specs.AtTurn.{each-so}
 use Rattle.told.specs.Alike.{sweep-alike}
@@ -50,11 +49,6 @@ pub record TellsOf (q : Question) (dots : List Float) (order : List ℕ) (l : Le
   pub tells : TellsTrue (searchOf q dots order l)
 
 -- ---- numbers listed from where they were put
-made-at : {B : Type 0} (f : ℕ → B) (d : B) (a n i : ℕ) → i < n → getD (map f (from a n)) i d ≡ f (a + i)
-made-at f d a zero i h = absurd (omega arith)
-made-at f d a (suc n) zero h = let z : a ≡ a + 0 = omega arith in ap f z
-made-at f d a (suc n) (suc i) h = let z : suc a + i ≡ a + suc i = omega arith in made-at f d (suc a) n i (omega arith) ∙ ap f z
-
 any-default : (l : List ℕ) (i d e : ℕ) → i < length l → getD l i d ≡ getD l i e
 any-default [] i d e h = absurd (omega arith)
 any-default (x ∷ l) zero d e h = refl
@@ -84,9 +78,6 @@ each-below a (suc n) m h = (omega arith, each-below (suc a) n m (omega arith))
 order-below : (xs : List Float) → EachOf (λ b. b < length xs) (byScore xs)
 unfolding byScore
 order-below xs = each-sortedBy (noLater xs) (λ b. b < length xs) (from 0 (length xs)) (each-below 0 (length xs) (length xs) (omega arith))
-
-order-length : (xs : List Float) → length (byScore xs) ≡ length xs
-order-length xs = permuted-length (order-permutes xs) ∙ from-length 0 (length xs)
 
 -- ---- an accepted search
 module _ (q : Question) (l : Lends) (b : Bool) (accepted : firstOf (tests q l b) ≡ verdict.Accepted) where

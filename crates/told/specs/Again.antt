@@ -1,38 +1,29 @@
 -- What some turns leave where it was lent is taken up again by later ones: it is accepted, and it is the same state. Assumes nothing.
-use Prim.Native.Nat.{ℕ, suc, _+_, _-_, _≤_, _<_}
+use Prim.Native.Nat.{ℕ, _+_, _-_, _≤_}
 use native.Mathlib.Omega.{arith}
 use mathlib.Core.Path.{_≡_, refl, ap, _∙_}
-use mathlib.Core.Bool.{Bool, true, false, _||_, true≢false}
-use mathlib.Core.List.{List, [], _∷_, _++_, map}
-use lib.ListN.{length, set, length-append, length-drop, length-map, length-set, List·getD-append, List·getD-map}
+use mathlib.Core.Bool.{false, _||_}
+use mathlib.Core.List.{List, [], _∷_, _++_}
+use lib.ListN.{length, set, length-append, length-drop, length-set}
 use lib.Seq.{length-take-le, take-at}
-use lib.Dec.{eqb, leb, ltb}
-use lib.Ieee.{Float, nan}
-use borrow.Author.Tests.{ne-eqb, ltb-false, leb-false, le-ltb, lt-leb}
+use lib.Dec.{leb, ltb}
+use borrow.Author.Tests.{ltb-false, leb-false, le-ltb, lt-leb}
+use Rattle.lists.specs.Laws.{neither}
 use Rattle.refusal.specs.declared.Verdict.the-variants.{Accepted}
 use Rattle.refusal.specs.First.{firstOf, faultless, accepted-by}
 use Rattle.kept_list.specs.declared.Scored.{Scored}
 use Rattle.kept_list.specs.Keep.{keep, keepAll}
 use Rattle.kept_list.specs.Pushing.{length-keep}
-use Rattle.kept_list.specs.Entry.{scored, better}
-use Rattle.kept_list.specs.Lent.{scoreOf, entries, written}
+use Rattle.kept_list.specs.Entry.{better}
+use Rattle.kept_list.specs.Lent.{entries, written}
 use Rattle.kept_list.specs.Laid.{RoomFor, entries-written, room-written, length-beside}
-use Rattle.held.specs.Blocks.{worstHeld}
-use Rattle.probing.specs.Probing.{Given, State, state, worst}
+use Rattle.probing.specs.Probing.{Given, State, state}
 use Rattle.probing.specs.Probed.{Terms, Lends, lends, tests, bytesOf, restOf, opened}
 use Rattle.search.specs.Trace.{Turn, entriesOf, startsOf, eventsOf, marked, after}
 
 -- what is held once a state is laid down where the kept list and the visit bytes lie
 abbrev pub laidDown : Terms → Lends → State → Lends
 laidDown t l s = lends (written (s .kept) (l .kept)) (s .visits ++ restOf t (l .visits))
-
--- the worst kept score is the last one laid down
-pub worst-laid : (es : List Scored) (xs : List Float) → worstHeld (length es) (map scoreOf es ++ xs) ≡ worst es
-worst-laid [] xs = refl
-worst-laid (e ∷ es) xs =
-    let z : eqb (suc (length es)) 0 ≡ false = ne-eqb (suc (length es)) 0 (λ e. omega arith) in
-    let n : suc (length es) - 1 < length (map scoreOf (e ∷ es)) = omega (arith, length-map es scoreOf) in
-    rw z (List·getD-append (map scoreOf (e ∷ es)) xs nan (suc (length es) - 1) n ∙ List·getD-map scoreOf (e ∷ es) (suc (length es) - 1) (scored 0 nan))
 
 keepAll-few : (k : ℕ) (es ps : List Scored) → length es ≤ k → length (keepAll better k es ps) ≤ k
 keepAll-few k es [] h = h
@@ -41,10 +32,6 @@ keepAll-few k es (p ∷ ps) h = keepAll-few k (keep better k p es) ps (omega (ar
 pub length-marked : (visits ns : List ℕ) → length (marked visits ns) ≡ length visits
 length-marked visits [] = refl
 length-marked visits (n ∷ ns) = length-marked (set visits n 1) ns ∙ length-set visits n 1
-
-neither : (a b : Bool) → (a || b) ≡ false → (a ≡ false) × (b ≡ false)
-neither true b e = absurd (true≢false e)
-neither false b e = (refl, e)
 
 module _ (k : ℕ) (t : Terms) (l : Lends) (accepted : firstOf (tests k t l) ≡ Accepted) where
   -- there is room for k entries, and a byte for each start

@@ -16,13 +16,14 @@ use Rattle.kept_list.specs.Lent.{scoreOf}
 use Rattle.held.specs.Blocks.{worstHeld}
 use Rattle.probing.specs.Probing.{Place, Given, State, state, goesOn, andThen, probe, skips, positions, passOver, sweep, visited, worst}
 use Rattle.probing.specs.Probed.{given, tests, restOf, laid, ifAccepted, opened, listed, probed}
+use Rattle.probing.specs.Worst.{worst-laid}
 use Rattle.reasons.specs.declared.Turn.{Turn}
 use Rattle.reasons.specs.declared.TurnSeen.the-variants.{Taken}
 use Rattle.reasons.specs.declared.Fate.the-variants as tells
 use Rattle.reasons.specs.Turns.{turnOfBlock, turnAt, seen, seenThen, turnSeen}
 use Rattle.reasons.specs.Reasons.{holds, turnOf, Fated, fated, fatedThen, fatedIn, atTurn, fateAt, fateOf}
 use Rattle.told.specs.Cuts.{before-first, map-cut, from-cut, among-until}
-use Rattle.told.specs.Again.{laidDown, worst-laid, Fits, accepted-again, opened-again}
+use Rattle.told.specs.Again.{laidDown, Fits, accepted-again, opened-again}
 use Rattle.told.specs.Telling.{Search, told, givenOf, beganWith, PostingOf, InFirst}
 
 pub each-so : {A : Type 0} {P Q : A → Type 0} → ((x : A) → P x → Q x) → (xs : List A) → EachOf P xs → EachOf Q xs

@@ -9,6 +9,7 @@ use lib.ListN.{length, length-map}
 use lib.Dec.{eqb, leb, ltb}
 use borrow.Author.Tests.{eqb-true, eqb-false, leb-true, leb-false, le-leb, lt-leb, ltb-true, ltb-false, lt-ltb, le-ltb}
 use Rattle.lists.specs.Lists.{EachOf, before, from, among}
+use Rattle.lists.specs.Laws.{from-length}
 
 module _ {A : Type 0} (test : A → Bool) where
   -- where a list is cut: the entries before the first that passes, that one, and those after it
@@ -42,10 +43,6 @@ module _ {A : Type 0} (test : A → Bool) where
   none-in (x ∷ front) here rest n = none-in front here rest (n .1)
 
 -- ---- numbers one after another
-pub from-length : (a n : ℕ) → length (from a n) ≡ n
-from-length a zero = refl
-from-length a (suc n) = ap suc (from-length (suc a) n)
-
 pub length-from : {B : Type 0} (f : ℕ → B) (a n : ℕ) → length (map f (from a n)) ≡ n
 length-from f a n = length-map (from a n) f ∙ from-length a n
 

@@ -10,8 +10,8 @@ use Rattle.refusal.specs.declared.Verdict.{Verdict}
 use Rattle.refusal.specs.declared.Verdict.the-variants as verdict
 use Rattle.refusal.specs.First.{firstOf}
 use Rattle.probing.specs.declared.Answer.the-variants.{Found}
-use Rattle.probing.specs.declared.RangeReading.{RangeReading}
-use Rattle.probing.specs.declared.RangeReading.the-variants.{ReachesPast, Breaks, Score}
+use Rattle.evaluating.specs.declared.RangeReading.{RangeReading}
+use Rattle.evaluating.specs.declared.RangeReading.the-variants.{ReachesPast, Breaks, Score}
 use Rattle.probing.specs.Probing.{Place, Given, State, state, Outcome, passed, stopped, found, ofReading, outcome, packedAt, startAt, visited, Reached, goesOn, stopsAt, probe, positions, sweep, worst}
 use Rattle.probing.specs.Probed.{given, tests, laid, ifAccepted, probed}
 use Rattle.search.specs.Trace.{turns, at, skippedBlock, probedBlock, startsOf, eventsOf, marked, after}

@@ -9,7 +9,7 @@ use lib.Dec.{leb, ltb}
 use lib.Ieee.{Float}
 use borrow.Author.Tests.{eq-eqb, leb-true, ltb-true}
 use Rattle.lists.specs.Lists.{EachOf, before, from}
-use Rattle.kept_list.specs.Order.{both}
+use Rattle.lists.specs.Laws.{both}
 use Rattle.probing.specs.Probing.{Place}
 use Rattle.search.specs.Fates.{Evaluated, VisitedBefore}
 use Rattle.reasons.specs.declared.Fate.the-variants as tells

@@ -1,7 +1,7 @@
-// Two small steps of a block's turn: visit bytes and the skip test. Nothing is assumed of the slices.
+// Small steps of a block's turn: visit bytes, the skip test and a count. Nothing is assumed of the slices.
 ghost use mathlib.Core.Path.{_≡_};
 ghost use mathlib.Core.Bool.{not};
-ghost use Prim.Native.Nat.{min};
+ghost use Prim.Native.Nat.{_+_, min};
 ghost use lib.ListN.{getD, set};
 ghost use lib.Dec.{eqb};
 ghost use Rattle.turns.specs.Skips.{skipsAt};
@@ -41,4 +41,15 @@ pub fn least(a: u64, b: usize) -> usize
 {
     let n = a as usize;
     if n <= b { n } else { b }
+}
+
+// A count with one more; the greatest number stays as it is. A search does not come there: it counts no more than there are visit bytes
+// or turns.
+pub fn one_more(n: u64) -> u64
+    ensures { λ r. ⌜ r ≡ min (n + 1) 18446744073709551615 ⌝ }
+{
+    if n == 18446744073709551615 {
+        return n;
+    }
+    n + 1
 }

@@ -1,7 +1,6 @@
 -- Document 01's worked pages, those marked P, as one table: what is asked, and what the document says. Assumes nothing.
 use Prim.Native.Nat.{ℕ, _-_, _^_}
 use mathlib.Core.Path.{_≡_, refl}
-use mathlib.Core.Logic.{_⊎_, inl, inr}
 use mathlib.Core.List.{List, [], _∷_, map}
 use lib.IntN.{pos}
 use lib.Ieee.{Float, nan, binary32, ofBits, ofInt, add, sub, mul, div}

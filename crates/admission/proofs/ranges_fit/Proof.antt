@@ -1,5 +1,5 @@
 -- The loop's invariants: what was found so far and the check of the ids left make the check of all. Assumes nothing.
-use mathlib.Core.Path.{_≡_, refl, sym, ap, _∙_}
+use mathlib.Core.Path.{_≡_, refl, _∙_}
 use Prim.Native.Nat.{_≤_, _-_}
 use mathlib.Core.Bool.{_&&_}
 use mathlib.Core.List.{[]}

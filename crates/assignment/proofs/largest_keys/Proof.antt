@@ -1,5 +1,5 @@
 -- `assignment::largest_keys` meets its contract. Assumes nothing.
-use Rattle.documents.specs.Documents.{documents, terms, largest}
+use Rattle.documents.specs.Documents.{documents, terms}
 use Rattle.documents.specs.TermKeys.{termOf}
 use Rattle.assignment.specs.Keys.{keysOf, held-terms, largest-keys}
 use mathlib.Core.Path.{_≡_, sym, ap, _∙_}

@@ -1,12 +1,8 @@
 -- `assignment::nearest_to` meets its contract. Assumes nothing.
 use Rattle.centroid_index.specs.Index.{addTerms}
 use Rattle.documents.specs.Documents.{documents}
-use mathlib.Core.Path.{_≡_, refl, sym, ap, _∙_}
-use mathlib.Core.List.{List, [], _∷_, _++_, map, foldl, zipWith}
-use mathlib.Core.Logic.{⊎-elim}
-use Prim.Native.Nat.{ℕ, suc, _+_, _-_, _≤_, _<_}
-use native.Mathlib.Omega.{arith}
-use lib.ListN.{length, getD, set, take, drop, replicate, length-set}
+use mathlib.Core.Path.{sym, _∙_}
+use Prim.Native.Nat.{_-_}
 use borrow.Author.Needs.{needs}
 use Rattle.assignment.proofs.nearest_to.Statement.{statement}
 use Rattle.assignment.proofs.nearest_to.Tie as tie

@@ -2,7 +2,8 @@
 use lib.Seq.{length-take-le}
 use Rattle.documents.specs.Documents.{paired}
 use Rattle.documents.specs.Places.{paired-count}
-use Rattle.assignment.specs.Keys.{held-paired, keys-sorted}
+use Rattle.documents.specs.TermKeys.{held-paired}
+use Rattle.assignment.specs.Keys.{keys-sorted}
 use mathlib.Core.Path.{_≡_, sym}
 use Prim.Native.Nat.{min}
 use native.Mathlib.Omega.{arith}

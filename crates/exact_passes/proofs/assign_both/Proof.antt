@@ -2,12 +2,10 @@
 use lib.Seq.{length-take-le}
 use Rattle.documents.specs.Documents.{documents}
 use Rattle.exact_passes.specs.Exact.{assigned-exactly}
-use mathlib.Core.Path.{_≡_, refl, sym, ap, _∙_}
-use mathlib.Core.List.{List, [], _∷_, _++_, map, foldl, zipWith}
-use mathlib.Core.Logic.{⊎-elim}
-use Prim.Native.Nat.{ℕ, suc, _+_, _-_, _≤_, _<_}
+use mathlib.Core.Path.{sym}
+use Prim.Native.Nat.{_-_}
 use native.Mathlib.Omega.{arith}
-use lib.ListN.{length, getD, set, take, drop, replicate, length-set}
+use lib.ListN.{length}
 use borrow.Author.Needs.{needs}
 use Rattle.exact_passes.proofs.assign_both.Statement.{statement}
 use Rattle.exact_passes.proofs.assign_both.Tie as tie

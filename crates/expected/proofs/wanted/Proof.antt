@@ -1,7 +1,8 @@
 -- A place past the expected numbers has the rest. Assumes nothing.
 use native.Mathlib.Omega.{arith}
 use borrow.Author.Needs.{needs}
-use Rattle.expected.proofs.Laws.{any-default, past-end}
+use Rattle.lists.specs.Laws.{past-end}
+use Rattle.expected.proofs.Laws.{any-default}
 use Rattle.expected.proofs.wanted.Statement.{statement}
 use Rattle.expected.proofs.wanted.Tie as tie
 

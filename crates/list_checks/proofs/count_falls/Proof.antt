@@ -1,6 +1,7 @@
 -- `list_checks::count_falls` meets its contract. What is counted and what is left to count make the whole. Assumes nothing.
 use lib.Dec.{leb}
-use Rattle.list_checks.proofs.Loops.{byte-small, byte-fall, falls-step, falls-end}
+use Rattle.lists.specs.Laws.{byte-small}
+use Rattle.list_checks.proofs.Loops.{byte-fall, falls-step, falls-end}
 use Prim.Native.Nat.{_+_, _-_, _≤_, _<_}
 use native.Mathlib.Omega.{arith}
 use mathlib.Core.Path.{_≡_, _∙_}

@@ -2,7 +2,8 @@
 use lib.ListN.{getD}
 use Prim.Native.Nat.{_-_}
 use lib.Dec.{leb}
-use Rattle.list_checks.proofs.Loops.{byte-small, seam-none, seam-end, seam-here}
+use Rattle.lists.specs.Laws.{byte-small}
+use Rattle.list_checks.proofs.Loops.{seam-none, seam-end, seam-here}
 use borrow.Author.Tests.{le-ltb, lt-ltb}
 use native.Mathlib.Omega.{arith}
 use borrow.Author.Needs.{needs}

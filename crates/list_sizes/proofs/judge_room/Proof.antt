@@ -1,5 +1,4 @@
 -- `judge_room` gives the sizes, or 4. Assumes nothing.
-use lib.ListN.{length}
 use Rattle.list_sizes.proofs.Laws.{room-refused, room-found}
 use borrow.Author.Needs.{needs}
 use Rattle.list_sizes.proofs.judge_room.Statement.{statement}

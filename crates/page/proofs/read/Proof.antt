@@ -1,7 +1,7 @@
 -- `page::read`: by the table where it has a place for each component, else 14 where the terms don't hold or the sum through the sieve. Assumes nothing.
 use mathlib.Core.Path.{sym, _∙_}
+use Rattle.documents.specs.Laws.{slices-even as holds-even}
 use Rattle.page.proofs.Laws.{reads-laid, reads as reads-law, breaks, below-even}
-use Rattle.page.specs.Reads.{holds-even}
 use borrow.Author.Needs.{needs}
 use Rattle.page.proofs.read.Statement.{statement}
 use Rattle.page.proofs.read.Tie as tie

@@ -1,7 +1,7 @@
 -- `page::seek`: the place and what is left below from there make the place sought. Assumes nothing.
-use mathlib.Core.Path.{_≡_, refl, sym, ap, _∙_}
-use Prim.Native.Nat.{ℕ, _≤_, _<_, _-_, _+_}
-use lib.ListN.{length, getD}
+use mathlib.Core.Path.{_≡_, refl, _∙_}
+use Prim.Native.Nat.{_-_}
+use lib.ListN.{length}
 use Rattle.page.proofs.Laws.{soughtFrom, seek-stop, seek-step, seek-end}
 use Rattle.page.specs.Through.{sought}
 use borrow.Author.Needs.{needs}

@@ -1,6 +1,6 @@
 -- `page::sieve_of`: marking what is left is marking all. Assumes nothing.
-use mathlib.Core.Path.{_≡_, refl, sym, ap, _∙_}
-use Prim.Native.Nat.{ℕ, _≤_, _<_, _-_, _+_}
+use mathlib.Core.Path.{_≡_, refl, _∙_}
+use Prim.Native.Nat.{ℕ, _<_, _-_}
 use native.Mathlib.Nat.{mod-lt}
 use lib.Dec.{lit<}
 use lib.ListN.{length, drop, length-set, length-replicate}

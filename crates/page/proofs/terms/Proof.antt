@@ -1,6 +1,6 @@
 -- `page::terms`: going on through what is left is going on from the first place. Assumes nothing.
-use mathlib.Core.Path.{_≡_, refl, sym, ap, _∙_}
-use Prim.Native.Nat.{ℕ, _≤_, _<_, _-_, _+_}
+use mathlib.Core.Path.{_≡_, refl, _∙_}
+use Prim.Native.Nat.{_≤_, _-_}
 use Rattle.page.proofs.Laws.{throughFrom}
 use borrow.Author.Needs.{needs}
 use native.Mathlib.Omega.{arith}

@@ -1,11 +1,9 @@
 -- `page::walk`: four terms at a time, and then the rest. Assumes nothing.
 use mathlib.Core.Path.{_≡_, refl, sym, ap, _∙_}
-use Prim.Native.Nat.{ℕ, _≤_, _<_, _-_, _+_}
+use Prim.Native.Nat.{_≤_, _-_}
 use lib.ListN.{length}
-use lib.Ieee.{ofBits, binary32}
 use Rattle.page.specs.declared.Sum.{Sum}
 use Rattle.page.proofs.Laws.{throughFrom, through-end}
-use Rattle.page.specs.Through.{sumOf}
 use borrow.Author.Needs.{needs}
 use native.Mathlib.Omega.{arith}
 use Rattle.page.proofs.walk.Statement.{statement}

@@ -4,7 +4,6 @@ use borrow.Author.Tests.{not-true, not-false}
 use Rattle.kept_list.specs.Lent.{lent}
 use Rattle.probing.specs.Probed.{terms, lends}
 use Rattle.probing.proofs.Admitted.{refused-10, refused-6, refused-12, refused-4, accepted}
-use borrow.Author.Needs.{needs}
 use Rattle.probing.proofs.admit.Statement.{statement}
 use Rattle.probing.proofs.admit.Tie as tie
 

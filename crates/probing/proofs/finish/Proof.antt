@@ -1,6 +1,6 @@
 -- `probing::finish`: by what the turns came to. Assumes nothing.
 use mathlib.Core.Path.{sym, ap}
-use Rattle.probing.specs.Held.{answerOf}
+use Rattle.probing.specs.Probed.{answerOf}
 use borrow.Author.Needs.{needs}
 use Rattle.probing.proofs.finish.Statement.{statement}
 use Rattle.probing.proofs.finish.Tie as tie

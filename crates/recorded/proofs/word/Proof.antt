@@ -1,7 +1,6 @@
 -- A word past the end is 0. Assumes nothing.
-use native.Mathlib.Omega.{arith}
 use borrow.Author.Needs.{needs}
-use Rattle.recorded.proofs.Laws.{past-end}
+use Rattle.lists.specs.Laws.{past-end}
 use Rattle.recorded.proofs.word.Statement.{statement}
 use Rattle.recorded.proofs.word.Tie as tie
 

@@ -1,5 +1,5 @@
 -- `search::score_and_order`: the scores put at the front, and the blocks by them. Assumes nothing.
-use mathlib.Core.Path.{_≡_, refl, sym, ap, _∙_}
+use mathlib.Core.Path.{refl, sym, _∙_}
 use lib.ListN.{length}
 use Rattle.documents.specs.Documents.{paired}
 use Rattle.quantized_summary.specs.Layout.{arrays}

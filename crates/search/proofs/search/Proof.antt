@@ -1,5 +1,5 @@
 -- `search::search`: refused as its tests say, or scored and probed. Assumes nothing.
-use mathlib.Core.Path.{_≡_, refl, sym, ap, _∙_}
+use mathlib.Core.Path.{refl}
 use Rattle.kept_list.specs.Lent.{lent}
 use Rattle.quantized_summary.specs.Layout.{arrays}
 use Rattle.probing.specs.Probed.{terms, lends}

@@ -1,5 +1,5 @@
 -- `search::sort_and_search`: refused as its tests say, or scored, put in order and probed. Assumes nothing.
-use mathlib.Core.Path.{_≡_, refl, sym, ap, _∙_}
+use mathlib.Core.Path.{refl}
 use lib.ListN.{length}
 use Rattle.kept_list.specs.Lent.{lent}
 use Rattle.quantized_summary.specs.Layout.{arrays}

@@ -3,12 +3,9 @@ use lib.Dec.{leb}
 use Rattle.centroid_index.specs.Index.{entriesFrom, entries}
 use Rattle.documents.specs.Documents.{documents}
 use Rattle.cluster_checks.specs.Fits.{terms-count, fit-step, fit-not, fit-end}
-use mathlib.Core.Path.{_≡_, refl, sym, ap, _∙_}
-use mathlib.Core.List.{List, [], _∷_, _++_, map, foldl, zipWith}
-use mathlib.Core.Logic.{⊎-elim}
-use Prim.Native.Nat.{ℕ, suc, _+_, _-_, _≤_, _<_}
-use native.Mathlib.Omega.{arith}
-use lib.ListN.{length, getD, set, take, drop, replicate, length-set}
+use mathlib.Core.Path.{_≡_, refl, sym, _∙_}
+use Prim.Native.Nat.{_-_}
+use lib.ListN.{length, getD, drop}
 use borrow.Author.Needs.{needs}
 use Rattle.cluster_checks.proofs.fits.entries_fit.Statement.{statement}
 use Rattle.cluster_checks.proofs.fits.entries_fit.Tie as tie

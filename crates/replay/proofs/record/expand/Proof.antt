@@ -1,7 +1,6 @@
 -- `replay::record::expand` is safe and ends: a word is written at each turn. Assumes nothing.
 use mathlib.Core.Path.{_≡_, refl}
 use Prim.Native.Nat.{_-_}
-use native.Mathlib.Omega.{arith}
 use lib.ListN.{length}
 use borrow.Author.Needs.{needs}
 use Rattle.replay.proofs.record.expand.Statement.{statement}
