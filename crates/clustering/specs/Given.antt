@@ -17,7 +17,7 @@ use Rattle.clusters.specs.Clusters.{Assigned, clusters, exactly, approximately,
 use Rattle.clusters.specs.Ranks.{rankOf, Among, rank-below}
 use Rattle.clusters.specs.Canonical.{clusters-ranked, joined-nonempty}
 use Rattle.passes.specs.Room.{Room}
-use Rattle.clustering.specs.Modes.{fitting, ranksBy, ranks-by-length, Given, given-by}
+use Rattle.modes.specs.Modes.{fitting, ranksBy, ranks-by-length, Given, given-by}
 use Rattle.clustering.specs.Answers.{offsetsOf}
 
 -- the groups of n entries; of none there is no group, and nothing changes

@@ -1,4 +1,3 @@
 pub mod Answers
 pub mod Given
-pub mod Modes
 pub mod Ready

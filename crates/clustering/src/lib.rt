@@ -1,6 +1,4 @@
 // Clusters of a posting list's documents around given centroids: document 01, "Clusters".
-mod modes;
-
 use cluster_checks::Rooms;
 use configuration::ClusteringAlgorithm;
 use refusal::Refusal;

@@ -29,7 +29,7 @@ use Rattle.building.specs.Blocks.{blocks-within}
 use Rattle.building.specs.Offsets.{clusters-long}
 use Rattle.list_ready.specs.declared.ListBlocks.the-variants.{Offsets}
 use Rattle.list_ready.specs.Made.{left, leftBy}
-use Rattle.list_blocks.specs.Grouped.{lentOf, asBlocks, grouped}
+use Rattle.list_groups.specs.Grouped.{lentOf, asBlocks, grouped}
 
 -- ---- an empty list
 none : (k : ClusteringAlgorithm) (d : Documents) (minimum : ℕ) (centroids : List ℕ) → clusters (assignedBy k d minimum centroids []) ≡ []

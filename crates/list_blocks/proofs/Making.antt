@@ -36,7 +36,7 @@ use Rattle.building.specs.Offsets.{right-count}
 use Rattle.list_ready.specs.declared.ListBlocks.{ListBlocks}
 use Rattle.list_ready.specs.declared.ListBlocks.the-variants.{Offsets, Refused}
 use Rattle.list_ready.specs.Made.{makeTests, left, leftBy}
-use Rattle.list_blocks.specs.Grouped.{lentOf, grouped}
+use Rattle.list_groups.specs.Grouped.{lentOf, grouped}
 use Rattle.list_blocks.specs.Fits.{CutFits}
 use Rattle.list_blocks.proofs.Grouping.{GroupFits, group-is}
 

@@ -1,6 +1,4 @@
 // The blocks of a posting list that is to be built, made in lent scratch: by a fixed size, or by clusters around given centroids.
-mod groups;
-
 use blocking::BlockingAnswer;
 use configuration::BlockingStrategy;
 use list_ready::ListBlocks;
@@ -102,7 +100,7 @@ pub fn make(
             centroid_fraction: _,
             min_cluster_size,
             clustering_algorithm,
-        } => groups::group(
+        } => list_groups::group(
             dimension,
             min_cluster_size,
             clustering_algorithm,
