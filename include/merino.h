@@ -6,7 +6,11 @@
    and none may overlap one that is read. A pointer to a number that is written counts as a buffer of its own. A search needs about 140 KB
    of stack.
 
-   Each function answers 0 where the call is accepted, else the number of its refusal (document 01, "Numbered refusals"). */
+   Each function answers 0 where the call is accepted, else the number of its refusal (document 01, "Numbered refusals"): no refusal
+   has the number 0, and no two have the same.
+
+   A number that chooses (by_score, blocking, summarization) has a meaning for every value, and only those that are named here are meant
+   for use: the others are reserved, do today what is said of them, and may choose something else in a later version. */
 #ifndef MERINO_H
 #define MERINO_H
 
@@ -38,7 +42,8 @@ uint64_t merino_push(
 
 /* Searches a posting list for a query and goes on from the entries that the kept list holds.
 
-   by_score                0: blocks have their turns in number order; any other number: greater score first, then smaller block
+   by_score                0: blocks have their turns in number order; 1: greater score first, then smaller block. Any other number does
+                           as 1, and is reserved
    asked, weights          the query: components, strictly rising, and their values
    k, factor               how many are kept; a block is skipped at its turn if k are kept and its score < factor x worst kept score
    components, values      the terms of all documents, side by side
@@ -50,12 +55,14 @@ uint64_t merino_push(
    length, packed, scores  the kept list, as for merino_push; need k places
    visits                  a byte for each start from 0 to the number of terms; nonzero is visited, a visit writes 1
    dots                    left with the score of each block, in the first places; needs one for each minimum
-   order                   by_score alone: left with the block numbers in the order of their turns; needs one for each minimum
+   order                   where by_score is not 0: left with the block numbers in the order of their turns; needs one for each minimum
    position                left with the place in the postings at which 13 or 14 stopped the search, else 0
    evaluated, skipped      left with the number of postings evaluated and of blocks skipped; 0 where the search was refused or stopped
 
-   Refused, in this order, with the buffers unchanged: 11, 10, 6 (terms differ in number), 9, 12, 4. Stopped by 13 or 14 at a posting: the
-   kept list and the visit bytes stand as after the postings before it; dots and order stay. What lies past the results is unchanged. */
+   These three numbers are written by every call. Accepted (0), or stopped by 13 or 14 at a posting: the kept list and the visit bytes
+   stand as after the last posting that was evaluated, dots and order hold the blocks' scores and their turns, and what lies past these
+   results is unchanged. Refused, in this order: 11, 10, 6 (terms differ in number), 9, 12, 4; then length, packed, scores, visits, dots
+   and order are unchanged, and position, evaluated and skipped are 0. */
 uint64_t merino_search(
     uint64_t by_score,
     const uint32_t *asked, size_t asked_len,
@@ -85,14 +92,14 @@ uint64_t merino_search(
 /* Builds a posting list from the listed documents.
 
    dimension                 1 to 1,048,575; every component of a listed document is below it
-   blocking                  0: blocks of a fixed size; 1: clusters by the dot product with each centroid; any other number: clusters by a
-                             document's largest terms
+   blocking                  0: blocks of a fixed size; 1: clusters by the dot product with each centroid; 2: clusters by a document's
+                             largest terms. Any other number does as 2, and is reserved
    block_size                blocking 0 alone: how many postings a block has; the last one takes what is left over, up to twice as many
-                             less 1, and a list shorter than block_size has no block
+                             less 1. A list shorter than block_size has no block, so that a search finds nothing of it
    centroid_fraction         blocking other than 0: how many centroids there are for each posting; any float, a NaN too
    min_cluster_size          blocking other than 0: a group of at most so many postings dissolves
    doc_cut                   blocking other than 0 and 1: how many of a document's largest terms count
-   summarization             0: summaries of a fixed size; any other number: by energy
+   summarization             0: summaries of a fixed size; 1: by energy. Any other number does as 1, and is reserved
    n_components              summarization 0 alone: how many terms a summary keeps
    summary_energy            summarization other than 0: a summary keeps as many terms as reach this fraction of the sum of all
    offsets                   where each document's terms start, one more than there are documents: first 0, never falling, last the number
