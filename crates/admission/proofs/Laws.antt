@@ -9,7 +9,7 @@ use lib.ListN.{length, getD, take, drop}
 use lib.Seq.{drop-cons, drop-length, take-length}
 use lib.Dec.{leb, ltb, eqb}
 use lib.Ieee.{Float}
-use borrow.Author.Tests.{lt-ltb, le-ltb, eq-eqb, ne-eqb}
+use borrow.Author.Tests.{eq-eqb, ne-eqb}
 use Rattle.refusal.specs.declared.Refusal.the-variants.{StartTooLarge, RangeTooLong, NoBlockSize, WrongCentroids, WrongDocuments, OutsideLimits, WrongTerms}
 use Rattle.refusal.specs.declared.Verdict.{Verdict}
 use Rattle.refusal.specs.declared.Verdict.the-variants.{Accepted, Refused}
@@ -20,14 +20,14 @@ use Rattle.configuration.specs.declared.ClusteringAlgorithm.{ClusteringAlgorith
 use Rattle.lists.specs.Lists.{every}
 use Rattle.lists.specs.Laws.{every-append}
 use Rattle.packing.specs.Packing.{startLimit, lengthLimit}
-use Rattle.blocking.specs.Limits.{listLimit, blockLimit, dimensionLimit}
+use Rattle.blocking.specs.Limits.{listLimit, blockLimit, centroidLimit, dimensionLimit}
 use Rattle.blocking.specs.Blocking.{centroidCount}
 use Rattle.documents.specs.Documents.{Documents, documents, count, start, size}
 use Rattle.documents.specs.Checks.{offsetsHold, idsHold, documentsHold}
 use Rattle.documents.specs.declared.DocumentRange.{DocumentRange}
 use Rattle.documents.specs.Answers.{rangeOf}
 use Rattle.admission.specs.declared.RangesFit.{RangesFit}
-use Rattle.admission.specs.Admission.{centroidLimit, centroidsUsed, wrongCentroids, blockingFaults, startsFit, lengthsFit, inputTests}
+use Rattle.admission.specs.Admission.{centroidsUsed, wrongCentroids, blockingFaults, startsFit, lengthsFit, inputTests}
 use Rattle.admission.specs.Answers.{rangesFit, takenOf}
 
 -- ---- two lists, one after the other
@@ -76,14 +76,14 @@ pub none-asked : (f : Float) (n l : ℕ) → n ≡ 0 → false ≡ wrongCentroid
 none-asked f n l e = rw (eq-eqb n 0 e)
 
 module _ (f : Float) (n l k : ℕ) (some : n ≡ 0 → ⊥) (e : k ≡ centroidCount f n) where
-  pub too-many : centroidLimit < k → true ≡ wrongCentroids f n l
-  too-many h = rw (ne-eqb n 0 some, ← e, lt-ltb centroidLimit k h)
+  pub too-many : ltb centroidLimit k ≡ true → true ≡ wrongCentroids f n l
+  too-many h = rw (ne-eqb n 0 some, ← e, h)
 
-  pub count-asked : k ≤ centroidLimit → k < n → not (eqb l k) ≡ wrongCentroids f n l
-  count-asked h p = let m : min k n ≡ k = omega arith in rw (ne-eqb n 0 some, ← e, le-ltb centroidLimit k h, m)
+  pub count-asked : ltb centroidLimit k ≡ false → k < n → not (eqb l k) ≡ wrongCentroids f n l
+  count-asked h p = let m : min k n ≡ k = omega arith in rw (ne-eqb n 0 some, ← e, h, m)
 
-  pub list-asked : k ≤ centroidLimit → n ≤ k → not (eqb l n) ≡ wrongCentroids f n l
-  list-asked h p = let m : min k n ≡ n = omega arith in rw (ne-eqb n 0 some, ← e, le-ltb centroidLimit k h, m)
+  pub list-asked : ltb centroidLimit k ≡ false → n ≤ k → not (eqb l n) ≡ wrongCentroids f n l
+  list-asked h p = let m : min k n ≡ n = omega arith in rw (ne-eqb n 0 some, ← e, h, m)
 
 -- ---- the way of blocking
 module _ (k : BlockingStrategy) (n l size : ℕ) (e : k ≡ FixedSize size) where
@@ -118,11 +118,11 @@ module _ (os ids : List ℕ) (i : ℕ) (r : DocumentRange) (e : r ≡ rangeOf os
   size-is : r .end - r .start .0 ≡ size d (getD ids i 0)
   size-is = ap (λ z. z .end - z .start .0) e ∙ omega arith
 
-  pub start-step : (o : Bool) → i < length ids → (o && ltb (r .start .0) startLimit && startsFit d (drop (i + 1) ids)) ≡ (o && startsFit d (drop i ids))
-  start-step o h = rw (add-one i, drop-cons ids i 0 h, start-is) (and-assoc o (ltb (start d (getD ids i 0)) startLimit) (startsFit d (drop (suc i) ids)))
+  pub start-step : (o fits : Bool) → fits ≡ ltb (r .start .0) startLimit → i < length ids → (o && fits && startsFit d (drop (i + 1) ids)) ≡ (o && startsFit d (drop i ids))
+  start-step o fits f h = rw (f, add-one i, drop-cons ids i 0 h, start-is) (and-assoc o (ltb (start d (getD ids i 0)) startLimit) (startsFit d (drop (suc i) ids)))
 
-  pub length-step : (o : Bool) → i < length ids → (o && leb (r .end - r .start .0) lengthLimit && lengthsFit d (drop (i + 1) ids)) ≡ (o && lengthsFit d (drop i ids))
-  length-step o h = rw (add-one i, drop-cons ids i 0 h, size-is) (and-assoc o (leb (size d (getD ids i 0)) lengthLimit) (lengthsFit d (drop (suc i) ids)))
+  pub length-step : (o fits : Bool) → fits ≡ leb (r .end - r .start .0) lengthLimit → i < length ids → (o && fits && lengthsFit d (drop (i + 1) ids)) ≡ (o && lengthsFit d (drop i ids))
+  length-step o fits f h = rw (f, add-one i, drop-cons ids i 0 h, size-is) (and-assoc o (leb (size d (getD ids i 0)) lengthLimit) (lengthsFit d (drop (suc i) ids)))
 
 pub every-end : {A : Type 0} (p : A → Bool) (o : Bool) (l : List A) (i : ℕ) (w : Bool) → i ≡ length l → (o && every p (drop i l)) ≡ w → o ≡ w
 every-end p o l i w e h = sym (and-true o) ∙ rw (e, drop-length l) at h

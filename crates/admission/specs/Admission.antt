@@ -11,14 +11,10 @@ use Rattle.configuration.specs.declared.BlockingStrategy.{BlockingStrategy}
 use Rattle.configuration.specs.declared.BlockingStrategy.the-variants.{FixedSize, RandomKmeans}
 use Rattle.lists.specs.Lists.{every}
 use Rattle.packing.specs.Packing.{startLimit, lengthLimit}
-use Rattle.blocking.specs.Limits.{listLimit, blockLimit, dimensionLimit}
+use Rattle.blocking.specs.Limits.{listLimit, blockLimit, centroidLimit, dimensionLimit}
 use Rattle.blocking.specs.Blocking.{centroidCount}
 use Rattle.documents.specs.Documents.{Documents, count, start, size}
 use Rattle.documents.specs.Checks.{offsetsHold, idsHold, documentsHold}
-
--- as many centroids as there may be
-abbrev pub centroidLimit : ℕ
-centroidLimit = 65535
 
 -- fixed blocking takes no centroids
 abbrev pub centroidsUsed : BlockingStrategy → List ℕ → List ℕ

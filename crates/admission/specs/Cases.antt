@@ -5,9 +5,7 @@ use mathlib.Core.Bool.{false}
 use mathlib.Core.List.{List, [], _∷_}
 use lib.IntN.{pos}
 use lib.Ieee.{Float, fin, nan, inf, binary32, ofBits, ofInt, mul, toUnsigned}
-use Rattle.refusal.specs.declared.Verdict.{Verdict}
-use Rattle.refusal.specs.declared.Verdict.the-variants.{Accepted, Refused}
-use Rattle.refusal.specs.Refusals.{numberOf}
+use Rattle.refusal.specs.Refusals.{verdictNumber}
 use Rattle.refusal.specs.First.{firstOf}
 use Rattle.configuration.specs.declared.BlockingStrategy.{BlockingStrategy}
 use Rattle.configuration.specs.declared.BlockingStrategy.the-variants.{FixedSize, RandomKmeans}
@@ -15,14 +13,10 @@ use Rattle.configuration.specs.declared.ClusteringAlgorithm.the-variants as alg
 use Rattle.float32.specs.Bound.{inBound}
 use Rattle.float32.specs.Count.{scaledLength}
 use Rattle.packing.specs.Packing.{startLimit, lengthLimit}
+use Rattle.blocking.specs.Limits.{listLimit, blockLimit, centroidLimit, dimensionLimit}
 use Rattle.documents.specs.Documents.{Documents, documents, paired, terms}
 use Rattle.documents.specs.Checks.{offsetsHoldFree, offsetsHold, idsHold, termsHold, termsHoldBelow, documentsHold}
 use Rattle.admission.specs.Admission.{inputTests}
-
--- the number of a refusal; 0 for none
-abbrev numberFor : Verdict → ℕ
-numberFor Accepted = 0
-numberFor (Refused r) = numberOf r
 
 abbrev one : Float
 one = fin false 1 (pos 0)
@@ -43,7 +37,7 @@ abbrev half : BlockingStrategy
 half = RandomKmeans (ofBits binary32 0x3f000000) 0 (algorithm.RandomKmeansInvertedIndexApprox 3)
 
 abbrev answer : ℕ → BlockingStrategy → Documents → List ℕ → List ℕ → ℕ
-answer n k d ids cs = numberFor (firstOf (inputTests n k d ids cs))
+answer n k d ids cs = verdictNumber (firstOf (inputTests n k d ids cs))
 
 pub record Worked : Type 0 where
   pub fixed : answer 6 (FixedSize 2) three (0 ∷ 1 ∷ 2 ∷ 0 ∷ []) [] ≡ 0
@@ -81,7 +75,7 @@ pub record Worked : Type 0 where
   pub none-but-terms : answer 6 all spoilt [] (2 ∷ []) ≡ 14
 
 pub worked : Worked
-unfolding inputTests offsetsHoldFree offsetsHold idsHold termsHold termsHoldBelow documentsHold terms paired inBound startLimit lengthLimit scaledLength ofBits ofInt mul toUnsigned
+unfolding inputTests offsetsHoldFree offsetsHold idsHold termsHold termsHoldBelow documentsHold terms paired inBound startLimit lengthLimit listLimit blockLimit centroidLimit dimensionLimit scaledLength ofBits ofInt mul toUnsigned
 worked =
     record {
       fixed = refl;

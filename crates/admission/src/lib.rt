@@ -18,9 +18,6 @@ ghost use Rattle.documents.specs.Checks.{offsetsHold, idsHold, documentsHold};
 ghost use Rattle.admission.specs.Admission.{centroidsUsed, wrongCentroids, blockingFaults, inputTests};
 ghost use Rattle.admission.specs.Answers.{rangesFit, takenOf};
 
-// As many centroids as there may be.
-pub const CENTROID_LIMIT: u64 = 65_535;
-
 // Whether the start of each listed range is below its limit, and whether no length is above its own.
 pub struct RangesFit {
     pub starts: bool,
@@ -112,8 +109,8 @@ fn ranges_fit(offsets: &[u64], ids: &[u64]) -> RangesFit
         let at = range.start;
         let start = at.0;
         let end = range.end;
-        starts = starts & (start < PackedPosting::START_LIMIT);
-        lengths = lengths & (end - start <= PackedPosting::LENGTH_LIMIT);
+        starts = starts & PackedPosting::start_fits(at);
+        lengths = lengths & PackedPosting::length_fits(end - start);
         i += 1;
     }
     RangesFit {
@@ -130,7 +127,7 @@ fn wrong_centroids(fraction: f32, ids: u64, listed: u64) -> bool
         return false;
     }
     let count = blocking::centroid_count(fraction, ids);
-    if CENTROID_LIMIT < count {
+    if blocking::limits::too_many_centroids(count) {
         return true;
     }
     if count < ids {

@@ -10,14 +10,14 @@ ghost use lib.ListN.{length, take};
 ghost use Rattle.approximate_passes.specs.Approximate.{remaining};
 
 // Puts a centroid behind the first n of a slice unless its group dissolves, and answers how many these are then.
-fn push(dissolves: bool, centroid: u64, competing: &mut [u64], n: usize) -> usize
+fn push(dissolves: bool, centroid: DocumentId, competing: &mut [u64], n: usize) -> usize
     requires { ⌜ n < length (now competing) ⌝ }
-    ensures { λ r. ⌜ (take r (now (competing .exit)) ≡ take n (now (competing .entry)) ++ cond dissolves [] (centroid ∷ [])) × (r ≤ n + 1) ⌝ }
+    ensures { λ r. ⌜ (take r (now (competing .exit)) ≡ take n (now (competing .entry)) ++ cond dissolves [] (centroid .0 ∷ [])) × (r ≤ n + 1) ⌝ }
 {
     if dissolves {
         return n;
     }
-    competing[n] = centroid;
+    competing[n] = centroid.0;
     n + 1
 }
 
@@ -36,9 +36,10 @@ pub(crate) fn gather(
     let mut n = 0usize;
     let mut i = 0usize;
     while i < centroids.len() {
-        let r = rank(known, DocumentId(centroids[i]));
+        let centroid = DocumentId(centroids[i]);
+        let r = rank(known, centroid);
         let dissolves = is_small(counts, minimum, r);
-        n = push(dissolves, centroids[i], competing, n);
+        n = push(dissolves, centroid, competing, n);
         i += 1;
     }
     n

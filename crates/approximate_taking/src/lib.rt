@@ -11,6 +11,7 @@ ghost use Rattle.passes.specs.Passes.{over};
 ghost use Rattle.slot_scores.specs.Met.{none, Clear};
 ghost use Rattle.approximate_taking.specs.Taking.{nearlyChoice, againRank};
 use lists::shorter;
+use names::CentroidRank;
 use names::DocumentId;
 use ranking::is_small;
 use ranking::rank;
@@ -31,9 +32,9 @@ fn near_rank(
     weights: &[f32],
     scores: &mut [f32],
     keys: &mut [u64],
-) -> u64
+) -> CentroidRank
     requires { ⌜ Clear (now scores) ⌝ }
-    ensures { λ r. ⌜ (r ≡ rankIn (now (known .entry)) (nearlyChoice cut (first .0) (now (competing .entry)) (documents (now (starts .entry)) (now (slots .entry)) (now (weights .entry))) (length (now (scores .entry))) (length (now (keys .entry)))
+    ensures { λ r. ⌜ (r .0 ≡ rankIn (now (known .entry)) (nearlyChoice cut (first .0) (now (competing .entry)) (documents (now (starts .entry)) (now (slots .entry)) (now (weights .entry))) (length (now (scores .entry))) (length (now (keys .entry)))
         (documents (now (offsets .entry)) (now (components .entry)) (now (values .entry))) (document .0)))
         × (now (scores .exit) ≡ replicate (length (now (scores .entry))) none) ⌝ }
 {
@@ -52,8 +53,8 @@ fn near_rank(
 
 // Takes each document for the first time, of as many as find a place in `taken`: all centroids of an index compete. Leaves the ranks of
 // those that take them from the start of `taken` on. The scores and the keys are work space, zero afterwards: the scores are cleared
-// once, and each document sets back what it added. It takes time in proportion to these two, to the sort of each document's terms, and
-// to the entries of the index that the terms of its cut meet.
+// once, and each document sets back what it added. It takes time in proportion to these two, to the sort of each document's terms, to
+// the entries of the index that the terms of its cut meet, and to log m for each document's rank among m known centroids.
 pub fn first_pass(
     offsets: &[u64],
     components: &[u32],
@@ -79,7 +80,7 @@ pub fn first_pass(
     let n = shorter(ids.len(), taken.len());
     let mut i = 0usize;
     while i < n {
-        taken[i] = near_rank(
+        let r = near_rank(
             offsets,
             components,
             values,
@@ -94,6 +95,7 @@ pub fn first_pass(
             scores,
             keys,
         );
+        taken[i] = r.0;
         i += 1;
     }
     clearing::clear_u64(keys);
@@ -128,8 +130,9 @@ pub fn second_pass(
     let end = shorter(ids.len(), taken.len());
     let mut i = 0usize;
     while i < end {
-        if is_small(counts, minimum, taken[i]) {
-            taken[i] = near_rank(
+        let own = CentroidRank(taken[i]);
+        if is_small(counts, minimum, own) {
+            let r = near_rank(
                 offsets,
                 components,
                 values,
@@ -144,6 +147,7 @@ pub fn second_pass(
                 scores,
                 keys,
             );
+            taken[i] = r.0;
         }
         i += 1;
     }

@@ -8,8 +8,7 @@ use mathlib.Core.List.{List, [], _∷_, _++_, map, foldl, zipWith}
 use lib.IntN.{ℤ, pos}
 use lib.Dec.{T, leb, ltb}
 use borrow.Author.Tests.{le-ltb, le-leb, lt-leb, ltb-true, ltb-false}
-use lib.Ieee.{Float, nan, inf, fin, binary32, fits, add, lt, eq, isNan, below}
-use lib.Ieee.Fits.{add-fits}
+use lib.Ieee.{Float, nan, inf, fin, binary32, fits, lt, eq, isNan, below}
 use Rattle.float32.specs.Units.{one, mag}
 use Rattle.float32.specs.Order.{atMost}
 use Rattle.float32.specs.OrderLaws.{atMost-refl, atMost-trans, atMost-total}
@@ -17,25 +16,18 @@ use Rattle.float32.specs.Heights.{height, lt-units, at-most-is}
 use Rattle.float32.specs.Tests.{is-true, yes}
 use Rattle.lists.specs.Lists.{EachOf, those, firstOr, lastOr}
 use Rattle.lists.specs.Greatest.{highest, Under, Below, last-greatest, last-fold, strict-fold}
-use Rattle.documents.specs.Documents.{Term, Documents, terms, products, dot, largest}
+use Rattle.documents.specs.Documents.{Term, Documents, terms, dot, largest}
+use Rattle.documents.specs.Laws.{dot-fits}
 use Rattle.assignment.specs.declared.Candidate.{Candidate}
 use Rattle.assignment.specs.Nearest.{candidate, centroidOf, candidates, greatest, aboveZero, nearest, nearly, ifGreater, firstAbove, lastFrom, lastNoLess}
 
--- ---- a dot product is an f32
-sum-fits : (x : Float) (xs : List Float) → T (fits binary32 x) → T (fits binary32 (foldl (add binary32) x xs))
-sum-fits x [] f = f
-sum-fits x (y ∷ xs) f = sum-fits (add binary32 x y) xs (add-fits binary32 x y)
-
+-- ---- 0 is an f32
 abbrev zero : Float
 zero = fin false 0 (pos 0)
 
 zero-fits : T (fits binary32 zero)
 unfolding fits
 zero-fits = tt
-
-dot-fits : (q ts : List Term) → T (fits binary32 (dot q ts))
-unfolding dot
-dot-fits q ts = sum-fits zero (products q ts) zero-fits
 
 -- ---- candidates by score
 abbrev pub noMore : Candidate → Candidate → Bool

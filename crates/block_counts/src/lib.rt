@@ -8,6 +8,7 @@ ghost use Rattle.block_documents.specs.Blocks.{topsOf, blockAt};
 ghost use Rattle.block_counts.specs.Counting.{counting, countVerdict, countLeft};
 ghost use Rattle.block_counts.specs.Turns.{noted, notesKeys, countable, noteBlock, notedFrom, unlessRefused, notesLeft};
 use configuration::SummarizationStrategy;
+use names::BlockNumber;
 use refusal::Refusal;
 use refusal::Verdict;
 use summaries::Summarized;
@@ -22,13 +23,20 @@ fn put(xs: &mut [f32], i: usize, x: f32)
 }
 
 // Counts the terms that the keys stand for, and stores their least value and their step at the block's number.
-fn note(keys: &[u64], b: usize, counts: &mut [u64], minimums: &mut [f32], steps: &mut [f32])
-    ensures { λ _. ⌜ noted (now (counts .exit)) (now (minimums .exit)) (now (steps .exit)) ≡ notesKeys b (noted (now (counts .entry)) (now (minimums .entry)) (now (steps .entry))) (now (keys .entry)) ⌝ }
+fn note(
+    keys: &[u64],
+    number: BlockNumber,
+    counts: &mut [u64],
+    minimums: &mut [f32],
+    steps: &mut [f32],
+)
+    ensures { λ _. ⌜ noted (now (counts .exit)) (now (minimums .exit)) (now (steps .exit)) ≡ notesKeys (number .0) (noted (now (counts .entry)) (now (minimums .entry)) (now (steps .entry))) (now (keys .entry)) ⌝ }
 {
     layout::tally(keys, counts);
     let extent = layout::extent_of_keys(keys);
     let least = extent.least;
     let greatest = extent.greatest;
+    let b = number.0 as usize;
     put(minimums, b, least);
     put(steps, b, quantizing::step_of(least, greatest));
 }
@@ -41,7 +49,7 @@ fn count_block(
     components: &[u32],
     values: &[f32],
     block: &[u64],
-    b: usize,
+    number: BlockNumber,
     keys: &mut [u64],
     places: &mut [u64],
     maxima: &mut [f32],
@@ -51,7 +59,7 @@ fn count_block(
 ) -> bool
     requires { ⌜ (dimension ≤ length (now keys)) × (dimension ≤ length (now places)) × (dimension ≤ length (now maxima)) ⌝ }
     ensures { λ r. ⌜ (r ≡ countable dimension strategy (documents (now (offsets .entry)) (now (components .entry)) (now (values .entry))) (now (block .entry)))
-        × (noted (now (counts .exit)) (now (minimums .exit)) (now (steps .exit)) ≡ noteBlock dimension strategy (documents (now (offsets .entry)) (now (components .entry)) (now (values .entry))) b (noted (now (counts .entry)) (now (minimums .entry)) (now (steps .entry))) (now (block .entry))) ⌝ }
+        × (noted (now (counts .exit)) (now (minimums .exit)) (now (steps .exit)) ≡ noteBlock dimension strategy (documents (now (offsets .entry)) (now (components .entry)) (now (values .entry))) (number .0) (noted (now (counts .entry)) (now (minimums .entry)) (now (steps .entry))) (now (block .entry))) ⌝ }
 {
     let summarized = summaries::summarize(
         dimension,
@@ -71,11 +79,11 @@ fn count_block(
     if kept == 0 {
         return false;
     }
-    note(&keys[..kept], b, counts, minimums, steps);
+    note(&keys[..kept], number, counts, minimums, steps);
     true
 }
 
-// The same for the block with the number b.
+// The same for the block with a number.
 fn count_at(
     dimension: u64,
     strategy: SummarizationStrategy,
@@ -84,7 +92,7 @@ fn count_at(
     values: &[f32],
     order: &[u64],
     blocks: &[u64],
-    b: usize,
+    number: BlockNumber,
     keys: &mut [u64],
     places: &mut [u64],
     maxima: &mut [f32],
@@ -93,10 +101,11 @@ fn count_at(
     steps: &mut [f32],
 ) -> bool
     requires { ⌜ (dimension ≤ length (now keys)) × (dimension ≤ length (now places)) × (dimension ≤ length (now maxima)) ⌝ }
-    requires { ⌜ b + 1 < length (now blocks) ⌝ }
-    ensures { λ r. ⌜ (r ≡ countable dimension strategy (documents (now (offsets .entry)) (now (components .entry)) (now (values .entry))) (blockAt (now (blocks .entry)) (now (order .entry)) b))
-        × (noted (now (counts .exit)) (now (minimums .exit)) (now (steps .exit)) ≡ noteBlock dimension strategy (documents (now (offsets .entry)) (now (components .entry)) (now (values .entry))) b (noted (now (counts .entry)) (now (minimums .entry)) (now (steps .entry))) (blockAt (now (blocks .entry)) (now (order .entry)) b)) ⌝ }
+    requires { ⌜ number .0 + 1 < length (now blocks) ⌝ }
+    ensures { λ r. ⌜ (r ≡ countable dimension strategy (documents (now (offsets .entry)) (now (components .entry)) (now (values .entry))) (blockAt (now (blocks .entry)) (now (order .entry)) (number .0)))
+        × (noted (now (counts .exit)) (now (minimums .exit)) (now (steps .exit)) ≡ noteBlock dimension strategy (documents (now (offsets .entry)) (now (components .entry)) (now (values .entry))) (number .0) (noted (now (counts .entry)) (now (minimums .entry)) (now (steps .entry))) (blockAt (now (blocks .entry)) (now (order .entry)) (number .0))) ⌝ }
 {
+    let b = number.0 as usize;
     let next = b + 1;
     let at = block_documents::places(blocks[b], blocks[next], order.len());
     let from = at.from;
@@ -108,7 +117,7 @@ fn count_at(
         components,
         values,
         &order[from..to],
-        b,
+        number,
         keys,
         places,
         maxima,
@@ -148,7 +157,7 @@ fn count_blocks(
             values,
             order,
             blocks,
-            b,
+            BlockNumber(b as u64),
             keys,
             places,
             maxima,
@@ -249,9 +258,9 @@ fn clear_unless(verdict: Verdict, counts: &mut [u64], minimums: &mut [f32], step
 // Counts how often each component comes in the summaries of a list's blocks, and stores the minimum and the step of each block at its
 // number; one that finds no place there is left out. `order` has the documents of the blocks, and `blocks` where each block starts and
 // where the last one ends; what lies past the documents is cut. The counts start from zero, whatever they held.
-// Refuses more than 65,535 blocks (8), blocks whose documents' terms don't hold (14), keys, places, maxima or counts of fewer places
-// than the dimension (4), and a block whose summary is empty (7). Keys, places and maxima are work space, left all zero; a refusal
-// sets the rest to zero too. The cost goes by the terms of the blocks' documents and the sorts of each block's components.
+// Refuses more blocks than there may be (8), blocks whose documents' terms don't hold (14), keys, places, maxima or counts of fewer
+// places than the dimension (4), and a block whose summary is empty (7). Keys, places and maxima are work space, left all zero; a
+// refusal sets the rest to zero too. The cost goes by the terms of the blocks' documents and the sorts of each block's components.
 pub fn count(
     dimension: u64,
     strategy: SummarizationStrategy,

@@ -35,7 +35,7 @@ blockAt blocks order b = part (getD blocks b 0) (getD blocks (b + 1) 0 - getD bl
 
 -- the places from one offset to the next, cut to as many as there are
 abbrev pub placesOf : ℕ → ℕ → ℕ → BlockPlaces
-placesOf start end count = record { from = min start count; to = min (start + (end - start)) count }
+placesOf offset next count = record { from = min offset count; to = min (offset + (next - offset)) count }
 
 -- ---- what clearing leaves
 abbrev pub zeros : List ℕ → List ℕ

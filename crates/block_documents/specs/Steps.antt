@@ -9,6 +9,7 @@ use borrow.Author.Tests.{ltb-false}
 use mir.Syntax.{w64}
 use mir.Val.{Fits}
 use mir.Facts.{fits-le}
+use Rattle.blocking.specs.Limits.{blockLimit}
 use Rattle.lists.specs.Laws.{neither as either-false}
 use Rattle.block_documents.specs.Blocks.{anyShort}
 
@@ -37,8 +38,8 @@ answered e h = (sym e ∙ h .0, h .1)
 pub place-fits : (from to n : ℕ) → from ≤ to → to ≤ n → n * 8 < 2 ^ 63 → Fits w64 (from * 8)
 place-fits from to n h k l = fits-le (mul-le-mul-right 8 (le-trans h k)) (record { fits = lt-trans l (lit< tt) })
 
--- the number of a block is a u16
-pub few-numbers : (n b : ℕ) → b + 1 < n → n ≤ 65536 → b < 65536
+-- the number of a block is below the limit on blocks
+pub few-numbers : (n b : ℕ) → b + 1 < n → n ≤ blockLimit + 1 → b < blockLimit
 few-numbers n b h k = omega arith
 
 pub first-in : (n b : ℕ) → b + 1 < n → b < n

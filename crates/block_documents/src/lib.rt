@@ -10,6 +10,7 @@ ghost use Rattle.refusal.specs.declared.Refusal.the-variants.{WrongTerms};
 ghost use Rattle.documents.specs.Documents.{documents};
 ghost use Rattle.documents.specs.Checks.{documentsHold};
 ghost use Rattle.block_documents.specs.Blocks.{blockAt, placesOf, blocksHold, anyShort, zeros, zeroValues};
+use names::BlockNumber;
 use refusal::Refusal;
 
 // Where the documents of a block stand, from the first to before the last.
@@ -19,11 +20,11 @@ pub struct BlockPlaces {
 }
 
 // The places from one offset to the next among so many: what lies past them is cut.
-pub fn places(start: u64, end: u64, count: usize) -> BlockPlaces
-    ensures { λ r. ⌜ r ≡ placesOf start end count ⌝ }
+pub fn places(offset: u64, next: u64, count: usize) -> BlockPlaces
+    ensures { λ r. ⌜ r ≡ placesOf offset next count ⌝ }
 {
-    let first = start as usize;
-    let last = end as usize;
+    let first = offset as usize;
+    let last = next as usize;
     if count <= first {
         return BlockPlaces {
             from: count,
@@ -66,7 +67,7 @@ pub fn are_short(dimension: u64, keys: usize, places: usize, maxima: usize) -> b
     (keys < needed) | (places < needed) | (maxima < needed)
 }
 
-// Whether the terms of the documents of the block b hold.
+// Whether the terms of the documents of the block with a number hold.
 fn block_holds(
     dimension: u64,
     offsets: &[u64],
@@ -74,11 +75,12 @@ fn block_holds(
     values: &[f32],
     order: &[u64],
     blocks: &[u64],
-    b: usize,
+    number: BlockNumber,
 ) -> bool
-    requires { ⌜ b + 1 < length (now blocks) ⌝ }
-    ensures { λ r. ⌜ r ≡ documentsHold dimension (documents (now (offsets .entry)) (now (components .entry)) (now (values .entry))) (blockAt (now (blocks .entry)) (now (order .entry)) b) ⌝ }
+    requires { ⌜ number .0 + 1 < length (now blocks) ⌝ }
+    ensures { λ r. ⌜ r ≡ documentsHold dimension (documents (now (offsets .entry)) (now (components .entry)) (now (values .entry))) (blockAt (now (blocks .entry)) (now (order .entry)) (number .0)) ⌝ }
 {
+    let b = number.0 as usize;
     let next = b + 1;
     let at = places(blocks[b], blocks[next], order.len());
     let from = at.from;
@@ -99,7 +101,15 @@ fn all_hold(
 {
     let mut b = 0usize;
     while b + 1 < blocks.len() {
-        if !block_holds(dimension, offsets, components, values, order, blocks, b) {
+        if !block_holds(
+            dimension,
+            offsets,
+            components,
+            values,
+            order,
+            blocks,
+            BlockNumber(b as u64),
+        ) {
             return false;
         }
         b += 1;

@@ -1,5 +1,6 @@
 -- One block at a time. Assumes nothing.
-use Prim.Native.Nat.{ℕ, suc, _+_, _≤_, _<_, min}
+use Prim.Native.Nat.{ℕ, suc, _+_, _%_, _≤_, _<_, min}
+use native.Mathlib.Nat.{mod-eq-of-lt}
 use native.Mathlib.Numerals.{add-one}
 use mathlib.Core.Path.{_≡_, refl, sym, ap, _∙_, subst}
 use mathlib.Core.Bool.{Bool, true, false, cond}
@@ -25,10 +26,11 @@ use Rattle.block_entries.specs.Turns.{keyEntries, placeBlock, placedFrom
 abbrev pub roomOf : Lent → ℕ
 roomOf l = min (length (l .ids)) (length (l .codes))
 
--- ---- the entries of some keys placed
-pub place-is : (b : ℕ) (ks : List ℕ) (l l' : Lent) (e : Extent) (s : Float) → e ≡ extentOf (map valueOfTerm ks) → s ≡ stepOf (e .least) (e .greatest) → l' ≡ placedWithin (roomOf l) l (map (keyEntry b (e .least) s) ks) → l' ≡ keyEntries b ks l
-place-is b ks l l' e s q t p =
+-- ---- the entries of some keys placed: a number of a list's block stands whole in an entry
+pub place-is : (b : ℕ) → b < 65536 → (ks : List ℕ) (l l' : Lent) (e : Extent) (s : Float) → e ≡ extentOf (map valueOfTerm ks) → s ≡ stepOf (e .least) (e .greatest) → l' ≡ placedWithin (roomOf l) l (map (keyEntry (b % 65536) (e .least) s) ks) → l' ≡ keyEntries b ks l
+place-is b h ks l l' e s q t p =
     p
+    ∙ ap (λ n. placedWithin (roomOf l) l (map (keyEntry n (e .least) s) ks)) (mod-eq-of-lt h)
     ∙ ap (λ x. placedWithin (roomOf l) l (map (keyEntry b (x .least) s) ks)) q
     ∙ ap (λ z. placedWithin (roomOf l) l (map (keyEntry b (least (map valueOfTerm ks)) z) ks)) (t ∙ ap (λ x. stepOf (x .least) (x .greatest)) q)
 

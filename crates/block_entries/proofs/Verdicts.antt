@@ -1,5 +1,5 @@
 -- Each way out: its verdict, and what it leaves. Assumes nothing.
-use Prim.Native.Nat.{ℕ, _≤_, min}
+use Prim.Native.Nat.{ℕ, _+_, _≤_, min}
 use native.Mathlib.Omega.{arith}
 use mathlib.Core.Path.{_≡_, refl, sym, ap, _∙_}
 use mathlib.Core.Bool.{Bool, true, false, not, cond}
@@ -24,8 +24,8 @@ use Rattle.block_entries.specs.Filling.{Filling, filling, fillVerdict, f
 use Rattle.block_entries.specs.Turns.{placedFrom, unlessRefused, entriesLeft}
 use Rattle.block_entries.proofs.Blocks.{roomOf, placed-all}
 
--- block numbers are u16
-pub few-blocks : (blocks order : List ℕ) → ltb blockLimit (length (between blocks order)) ≡ false → length blocks ≤ 65536
+-- one offset more than blocks
+pub few-blocks : (blocks order : List ℕ) → ltb blockLimit (length (between blocks order)) ≡ false → length blocks ≤ blockLimit + 1
 few-blocks blocks order h = let n = block-count blocks order in let l = ltb-false blockLimit (length (between blocks order)) h in omega arith
 
 pub same-room : (c i k c' i' k' : List ℕ) → length i' ≡ length i → length k' ≡ length k → roomOf (lent c' i' k') ≡ roomOf (lent c i k)

@@ -2,6 +2,7 @@
 ghost use mathlib.Core.Path.{_≡_};
 ghost use Prim.Native.Nat.{_+_, _≤_, _<_, min};
 ghost use lib.ListN.{length};
+ghost use Rattle.blocking.specs.Limits.{blockLimit};
 ghost use Rattle.lists.specs.Lists.{between};
 ghost use Rattle.documents.specs.Documents.{documents};
 ghost use Rattle.documents.specs.Checks.{documentsHold};
@@ -10,18 +11,20 @@ ghost use Rattle.block_documents.specs.Blocks.{topsOf, blocksHold, blockAt};
 ghost use Rattle.block_entries.specs.Filling.{filling, fillVerdict, fillLeft};
 ghost use Rattle.block_entries.specs.Turns.{keyEntries, placeBlock, placedFrom, unlessRefused, entriesLeft};
 use configuration::SummarizationStrategy;
+use names::BlockNumber;
 use refusal::Refusal;
 use refusal::Verdict;
 use summaries::Summarized;
 
-// Places the entries of the terms that the keys stand for, in the summary b.
-fn place(b: u16, keys: &[u64], cursors: &mut [u64], ids: &mut [u16], codes: &mut [u8])
-    ensures { λ _. ⌜ lent (now (cursors .exit)) (now (ids .exit)) (now (codes .exit)) ≡ keyEntries b (now (keys .entry)) (lent (now (cursors .entry)) (now (ids .entry)) (now (codes .entry))) ⌝ }
+// Places the entries of the terms that the keys stand for, in the summary of the block with a number.
+fn place(number: BlockNumber, keys: &[u64], cursors: &mut [u64], ids: &mut [u16], codes: &mut [u8])
+    requires { ⌜ number .0 < blockLimit ⌝ }
+    ensures { λ _. ⌜ lent (now (cursors .exit)) (now (ids .exit)) (now (codes .exit)) ≡ keyEntries (number .0) (now (keys .entry)) (lent (now (cursors .entry)) (now (ids .entry)) (now (codes .entry))) ⌝ }
 {
     let extent = layout::extent_of_keys(keys);
     let least = extent.least;
     let step = quantizing::step_of(least, extent.greatest);
-    layout::place_keys(b, least, step, keys, cursors, ids, codes);
+    layout::place_keys(number, least, step, keys, cursors, ids, codes);
 }
 
 // Summarizes a block and places its entries; answers whether its documents hold. Otherwise nothing is placed.
@@ -32,7 +35,7 @@ fn fill_block(
     components: &[u32],
     values: &[f32],
     block: &[u64],
-    b: u16,
+    number: BlockNumber,
     keys: &mut [u64],
     places: &mut [u64],
     maxima: &mut [f32],
@@ -41,8 +44,9 @@ fn fill_block(
     codes: &mut [u8],
 ) -> bool
     requires { ⌜ (dimension ≤ length (now keys)) × (dimension ≤ length (now places)) × (dimension ≤ length (now maxima)) ⌝ }
+    requires { ⌜ number .0 < blockLimit ⌝ }
     ensures { λ r. ⌜ (r ≡ documentsHold dimension (documents (now (offsets .entry)) (now (components .entry)) (now (values .entry))) (now (block .entry)))
-        × (lent (now (cursors .exit)) (now (ids .exit)) (now (codes .exit)) ≡ placeBlock dimension strategy (documents (now (offsets .entry)) (now (components .entry)) (now (values .entry))) b (lent (now (cursors .entry)) (now (ids .entry)) (now (codes .entry))) (now (block .entry))) ⌝ }
+        × (lent (now (cursors .exit)) (now (ids .exit)) (now (codes .exit)) ≡ placeBlock dimension strategy (documents (now (offsets .entry)) (now (components .entry)) (now (values .entry))) (number .0) (lent (now (cursors .entry)) (now (ids .entry)) (now (codes .entry))) (now (block .entry))) ⌝ }
 {
     let summarized = summaries::summarize(
         dimension,
@@ -59,11 +63,11 @@ fn fill_block(
         return false;
     };
     let kept = n as usize;
-    place(b, &keys[..kept], cursors, ids, codes);
+    place(number, &keys[..kept], cursors, ids, codes);
     true
 }
 
-// The same for the block with the number b.
+// The same for the block with a number.
 fn fill_at(
     dimension: u64,
     strategy: SummarizationStrategy,
@@ -72,7 +76,7 @@ fn fill_at(
     values: &[f32],
     order: &[u64],
     blocks: &[u64],
-    b: usize,
+    number: BlockNumber,
     keys: &mut [u64],
     places: &mut [u64],
     maxima: &mut [f32],
@@ -81,10 +85,11 @@ fn fill_at(
     codes: &mut [u8],
 ) -> bool
     requires { ⌜ (dimension ≤ length (now keys)) × (dimension ≤ length (now places)) × (dimension ≤ length (now maxima)) ⌝ }
-    requires { ⌜ (b + 1 < length (now blocks)) × (b < 65536) ⌝ }
-    ensures { λ r. ⌜ (r ≡ documentsHold dimension (documents (now (offsets .entry)) (now (components .entry)) (now (values .entry))) (blockAt (now (blocks .entry)) (now (order .entry)) b))
-        × (lent (now (cursors .exit)) (now (ids .exit)) (now (codes .exit)) ≡ placeBlock dimension strategy (documents (now (offsets .entry)) (now (components .entry)) (now (values .entry))) b (lent (now (cursors .entry)) (now (ids .entry)) (now (codes .entry))) (blockAt (now (blocks .entry)) (now (order .entry)) b)) ⌝ }
+    requires { ⌜ (number .0 + 1 < length (now blocks)) × (number .0 < blockLimit) ⌝ }
+    ensures { λ r. ⌜ (r ≡ documentsHold dimension (documents (now (offsets .entry)) (now (components .entry)) (now (values .entry))) (blockAt (now (blocks .entry)) (now (order .entry)) (number .0)))
+        × (lent (now (cursors .exit)) (now (ids .exit)) (now (codes .exit)) ≡ placeBlock dimension strategy (documents (now (offsets .entry)) (now (components .entry)) (now (values .entry))) (number .0) (lent (now (cursors .entry)) (now (ids .entry)) (now (codes .entry))) (blockAt (now (blocks .entry)) (now (order .entry)) (number .0))) ⌝ }
 {
+    let b = number.0 as usize;
     let next = b + 1;
     let at = block_documents::places(blocks[b], blocks[next], order.len());
     let from = at.from;
@@ -96,7 +101,7 @@ fn fill_at(
         components,
         values,
         &order[from..to],
-        b as u16,
+        number,
         keys,
         places,
         maxima,
@@ -123,7 +128,7 @@ fn fill_blocks(
     codes: &mut [u8],
 ) -> bool
     requires { ⌜ (dimension ≤ length (now keys)) × (dimension ≤ length (now places)) × (dimension ≤ length (now maxima)) ⌝ }
-    requires { ⌜ length (now blocks) ≤ 65536 ⌝ }
+    requires { ⌜ length (now blocks) ≤ blockLimit + 1 ⌝ }
     ensures { λ r. ⌜ (r ≡ blocksHold dimension (documents (now (offsets .entry)) (now (components .entry)) (now (values .entry))) (between (now (blocks .entry)) (now (order .entry))))
         × (lent (now (cursors .exit)) (now (ids .exit)) (now (codes .exit)) ≡ placedFrom dimension strategy (documents (now (offsets .entry)) (now (components .entry)) (now (values .entry))) (min (length (now (ids .entry))) (length (now (codes .entry)))) 0 (between (now (blocks .entry)) (now (order .entry))) (lent (now (cursors .entry)) (now (ids .entry)) (now (codes .entry)))) ⌝ }
 {
@@ -137,7 +142,7 @@ fn fill_blocks(
             values,
             order,
             blocks,
-            b,
+            BlockNumber(b as u64),
             keys,
             places,
             maxima,
@@ -226,9 +231,9 @@ fn clear_unless(verdict: Verdict, cursors: &mut [u64], ids: &mut [u16], codes: &
 
 // Places the entries of the summaries of a list's blocks: each goes to its component's cursor, which moves on by one, and has the
 // block's number and the code of its value. A cursor past the ids or the codes takes none.
-// Refuses more than 65,535 blocks (8), blocks whose documents' terms don't hold (14), and keys, places or maxima of fewer places than
-// the dimension (4). Keys, places and maxima are work space, left all zero; a refusal sets the rest to zero too. The cost is as for
-// `count`.
+// Refuses more blocks than there may be (8), blocks whose documents' terms don't hold (14), and keys, places or maxima of fewer places
+// than the dimension (4). Keys, places and maxima are work space, left all zero; a refusal sets the rest to zero too. The cost is as
+// for `count`.
 pub fn fill(
     dimension: u64,
     strategy: SummarizationStrategy,

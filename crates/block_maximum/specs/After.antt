@@ -5,11 +5,12 @@ use mathlib.Core.Bool.{Bool, true, false, _||_}
 use mathlib.Core.List.{List, [], _∷_, _++_, foldl, map-append, append-assoc, append-nil}
 use lib.ListN.{length}
 use lib.Ieee.{Float}
+use Rattle.lists.specs.Laws.{among-append}
 use Rattle.lists.specs.Lists.{among}
 use Rattle.documents.specs.Documents.{Term}
 use Rattle.block_maximum.specs.Meeting.{Met, meets}
 use Rattle.block_maximum.specs.Firsts.{Below}
-use Rattle.block_maximum.specs.Changes.{components, among-append}
+use Rattle.block_maximum.specs.Changes.{components}
 use Rattle.block_maximum.specs.Meetings.{Holds, met-again, met-new}
 
 module _ (K P : List ℕ) (M : List Float) (n : ℕ) (RK : n ≤ length K) (RP : n ≤ length P) (RM : n ≤ length M) where

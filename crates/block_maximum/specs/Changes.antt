@@ -3,7 +3,7 @@ use Prim.Native.Nat.{ℕ, zero, suc, _+_, _<_}
 use native.Mathlib.Omega.{arith}
 use native.Mathlib.Numerals.{add-one}
 use mathlib.Core.Path.{_≡_, refl, sym, ap, _∙_}
-use mathlib.Core.Bool.{Bool, true, false, _||_, cond, true≢false, or-assoc}
+use mathlib.Core.Bool.{Bool, true, false, _||_, cond, true≢false}
 use mathlib.Core.List.{List, [], _∷_, _++_, map, map-append, foldl-append}
 use lib.ListN.{length, getD, drop, set}
 use lib.Dec.{eqb}
@@ -86,7 +86,3 @@ pub getD-map : (f : ℕ → Float) (l : List ℕ) (k : ℕ) → k < length l →
 getD-map f [] k h = let z : ⊥ = omega arith in absurd z
 getD-map f (x ∷ l) zero h = refl
 getD-map f (x ∷ l) (suc k) h = getD-map f l k (omega arith)
-
-pub among-append : (m : ℕ) (a b : List ℕ) → among m (a ++ b) ≡ (among m a || among m b)
-among-append m [] b = refl
-among-append m (x ∷ a) b = ap (λ t. eqb m x || t) (among-append m a b) ∙ sym (or-assoc (eqb m x) (among m a) (among m b))

@@ -11,9 +11,9 @@ use lib.Ieee.{Float, nan, lt}
 use borrow.Author.Tests.{lt-ltb, eq-eqb, eqb-true, eqb-false, ltb-true}
 use Rattle.lists.specs.Lists.{among}
 use Rattle.lists.specs.Groups.{Against, less, same, more, against}
-use Rattle.lists.specs.Laws.{or-left, or-right}
+use Rattle.lists.specs.Laws.{or-left, or-right, among-append}
 use Rattle.documents.specs.Documents.{Term}
-use Rattle.block_maximum.specs.Changes.{components, maximumOf, maximum-other, maximum-first, maximum-later, map-same, map-one, set-next, getD-map, among-append}
+use Rattle.block_maximum.specs.Changes.{components, maximumOf, maximum-other, maximum-first, maximum-later, map-same, map-one, set-next, getD-map}
 use Rattle.block_maximum.specs.Meeting.{Met, met, known, raised, added, meets}
 use Rattle.block_maximum.specs.Firsts.{firsts, among-firsts, firsts-more, firsts-count, Below, PlaceOf, place-among, among-place}
 

@@ -1,22 +1,24 @@
 -- Counted, laid and placed, the kept terms of a list's blocks are the layout of the blocks' summaries. Assumes nothing.
-use Prim.Native.Nat.{ℕ, suc, _+_, _*_, _≤_, _<_}
+use Prim.Native.Nat.{ℕ, suc, _+_, _≤_, _<_}
 use native.Mathlib.Omega.{arith}
 use mathlib.Core.Path.{_≡_, refl, sym, ap, _∙_, subst}
 use mathlib.Core.Bool.{true}
-use mathlib.Core.List.{List, [], _∷_, _++_, map, foldl}
+use mathlib.Core.List.{List, _++_, map, foldl}
 use lib.ListN.{length, getD, drop, length-map, length-replicate}
 use lib.Seq.{sets, sets-eq}
 use lib.Dec.{T}
 use lib.Ieee.{Float, nan, binary32, fits}
 use Rattle.lists.specs.Lists.{EachOf, joined, keys, withKey}
 use Rattle.lists.specs.Groups.{offsets-count}
+use Rattle.blocking.specs.Limits.{blockLimit}
+use Rattle.blocking.specs.LimitLaws.{entries-fit}
 use Rattle.documents.specs.Documents.{Term, Documents}
 use Rattle.configuration.specs.declared.SummarizationStrategy.{SummarizationStrategy}
 use Rattle.summaries.specs.Summaries.{summary}
 use Rattle.quantized_summary.specs.Layout.{Layout}
 use Rattle.layout.specs.Layouts.{Entry, entriesFrom, gathered, layout}
 use Rattle.layout.specs.Placing.{componentOf, movedBy}
-use Rattle.layout.specs.Counted.{scanFrom, presentFrom, startsFrom, total, Tally}
+use Rattle.layout.specs.Counted.{scanFrom, presentFrom, startsFrom, total, Tally, total-few}
 use Rattle.layout.specs.Gathered.{present-keys, starts-groups}
 use Rattle.layout.specs.Guards.{blank, tally-of}
 use Rattle.layout.specs.Keys.{counted, lent, named, onTo, laidComponents, laidStarts, scanned, counts-long as counted-long}
@@ -34,12 +36,6 @@ countsFor n tops = foldl counted (blank n) (map componentOf (entriesFrom 0 tops)
 -- a result at the front of a lent buffer; past it nothing changes
 abbrev pub inFrontOf : {A : Type 0} → List A → List A → List A
 inFrontOf result buffer = result ++ drop (length result) buffer
-
--- ---- counts stay small
-total-small : (counts : List ℕ) → ((c : ℕ) → c < length counts → getD counts c 0 ≤ 65535) → total counts ≤ 65535 * length counts
-unfolding total
-total-small [] h = omega arith
-total-small (k ∷ counts) h = let i = total-small counts (λ c l. h (suc c) (omega arith)) in let f = h 0 (omega arith) in omega arith
 
 -- ---- what each buffer then holds
 pub record Laid (n : ℕ) (tops : List (List Term)) (l : Layout) : Type 0 where
@@ -60,7 +56,7 @@ pub record Laid (n : ℕ) (tops : List (List Term)) (l : Layout) : Type 0 where
   pub entries-laid : (ids codes : List ℕ) → length (l .ids) ≤ length ids → length (l .codes) ≤ length codes
       → placedIn (lent (scanned 0 0 (named (countsFor n tops)) (countsFor n tops)) ids codes) tops ≡ lent (movedBy (scanFrom 0 (countsFor n tops)) (entriesFrom 0 tops)) (inFrontOf (l .ids) ids) (inFrontOf (l .codes) codes)
 
-module _ (tops : List (List Term)) (n : ℕ) (below : EachOf (λ e. e .component < n) (entriesFrom 0 tops)) (few : (c : ℕ) → length (withKey componentOf c (entriesFrom 0 tops)) ≤ 65535) (narrow : n ≤ 4294967296) where
+module _ (tops : List (List Term)) (n : ℕ) (below : EachOf (λ e. e .component < n) (entriesFrom 0 tops)) (few : (c : ℕ) → length (withKey componentOf c (entriesFrom 0 tops)) ≤ blockLimit) (narrow : n ≤ 4294967296) where
   abbrev es : List Entry
   es = entriesFrom 0 tops
 
@@ -75,9 +71,9 @@ module _ (tops : List (List Term)) (n : ℕ) (below : EachOf (λ e. e .component
 
   small : total counts < 18446744073709551616
   small =
-      let t = total-small counts (λ c h. let e = tallied .each c h in let f = few c in omega arith) in
+      let t = total-few counts blockLimit (λ c h. let e = tallied .each c h in let f = few c in omega arith) in
       let l = long in
-      omega arith
+      entries-fit (length counts) (total counts) (omega arith) t
 
   short : length counts ≤ 4294967296
   short = let l = long in omega arith
@@ -134,10 +130,10 @@ module _ (tops : List (List Term)) (n : ℕ) (below : EachOf (λ e. e .component
             ∙ ap (λ m. lent (movedBy (scanFrom 0 counts) es) (inFrontOf (layout tops .ids) ids) (layout tops .codes ++ drop m codes)) codes-many;
       }
 
--- ---- blocks whose documents hold below the dimension, 65,535 of them at most: the layout is that of their summaries
+-- ---- blocks whose documents hold below the dimension, no more of them than there may be: the layout is that of their summaries
 pub passes-laid : (dimension : ℕ) (strategy : SummarizationStrategy) (d : Documents) (bs : List (List ℕ)) (n : ℕ)
     → ((k : ℕ) → getD (d .components) k 0 < 4294967296) → ((k : ℕ) → T (fits binary32 (getD (d .values) k nan)))
-    → blocksHold dimension d bs ≡ true → length bs ≤ 65535 → dimension ≤ n → n ≤ 4294967296
+    → blocksHold dimension d bs ≡ true → length bs ≤ blockLimit → dimension ≤ n → n ≤ 4294967296
     → Laid n (topsOf strategy d bs) (layout (map (summary strategy d) bs))
 passes-laid dimension strategy d bs n narrow fit holds few room cut =
     let tops = topsOf strategy d bs in

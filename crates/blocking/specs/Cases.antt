@@ -1,24 +1,19 @@
--- Document 01's worked pages on blocking. Assumes nothing.
-use Prim.Native.Nat.{ℕ}
+-- Worked cases of blocking beside document 01's pages, which stand in worked_cases/Pages. Assumes nothing.
 use mathlib.Core.Path.{_≡_, refl}
-use mathlib.Core.List.{List, [], _∷_}
-use mathlib.Core.Logic.{_⊎_, inl, inr}
+use mathlib.Core.List.{[], _∷_}
+use mathlib.Core.Logic.{inl, inr}
 use lib.Ieee.{nan, inf, binary32, ofBits, ofInt, mul, toUnsigned}
 use mathlib.Core.Bool.{false}
 use Rattle.float32.specs.Count.{scaledLength}
-use Rattle.blocking.specs.Blocking.{fixedOffsets, blocked, offsetsLeft, inNumbers, centroidCount}
+use Rattle.blocking.specs.Limits.{listLimit, blockLimit}
+use Rattle.blocking.specs.Blocking.{fixedOffsets, blocked, offsetsLeft, centroidCount}
+use Rattle.blocking.specs.Promises.{Gives}
 
--- a length, a block size and a lent buffer, with what they give: the number of a refusal on the left, of offsets on the right; and the buffer afterwards
-pub record Gives (n b : ℕ) (buffer : List ℕ) (answer : ℕ ⊎ ℕ) (after : List ℕ) : Type 0 where
-  pub answers : inNumbers (blocked n b buffer) ≡ answer
-  pub leaves : offsetsLeft n b buffer ≡ after
-
-pub record WorkedPages : Type 0 where
-  pub ten-by-three : Gives 10 3 (9 ∷ 9 ∷ 9 ∷ 9 ∷ 9 ∷ []) (inr 4) (0 ∷ 3 ∷ 6 ∷ 10 ∷ 9 ∷ [])
-  pub short-list : Gives 2 3 (9 ∷ 9 ∷ []) (inr 1) (2 ∷ 9 ∷ [])
-  pub empty-list : Gives 0 3 (9 ∷ 9 ∷ []) (inr 1) (0 ∷ 9 ∷ [])
-  pub no-block-size : Gives 10 0 (9 ∷ []) (inl 3) (9 ∷ [])
-  -- beside document 01's: the other refusals, each before those after it
+pub record BlockingCases : Type 0 where
+  -- the last block takes what is left over; a list shorter than a block has one offset; past the offsets nothing changes
+  pub last-longer : Gives 11 3 (9 ∷ 9 ∷ 9 ∷ 9 ∷ 9 ∷ []) (inr 4) (0 ∷ 3 ∷ 6 ∷ 11 ∷ 9 ∷ [])
+  pub no-block : Gives 4 5 (9 ∷ 9 ∷ []) (inr 1) (4 ∷ 9 ∷ [])
+  -- the refusals, each before those after it
   pub longest-list : Gives 16777216 16777216 (9 ∷ 9 ∷ []) (inr 2) (0 ∷ 16777216 ∷ [])
   pub list-too-long : Gives 16777217 0 [] (inl 8) []
   pub size-before-blocks : Gives 65536 0 [] (inl 3) []
@@ -40,14 +35,12 @@ pub centroids : Centroids
 unfolding scaledLength ofBits ofInt mul toUnsigned
 centroids = record { part-of-ten = refl; cut = refl; of-none = refl; negative = refl; no-number = refl; infinite = refl }
 
-pub worked-pages : WorkedPages
-unfolding fixedOffsets blocked offsetsLeft
-worked-pages =
+pub blocking-cases : BlockingCases
+unfolding fixedOffsets blocked offsetsLeft listLimit blockLimit
+blocking-cases =
     record {
-      ten-by-three = record { answers = refl; leaves = refl };
-      short-list = record { answers = refl; leaves = refl };
-      empty-list = record { answers = refl; leaves = refl };
-      no-block-size = record { answers = refl; leaves = refl };
+      last-longer = record { answers = refl; leaves = refl };
+      no-block = record { answers = refl; leaves = refl };
       longest-list = record { answers = refl; leaves = refl };
       list-too-long = record { answers = refl; leaves = refl };
       size-before-blocks = record { answers = refl; leaves = refl };

@@ -1,16 +1,23 @@
 -- Laws of fixed blocking. Assumes nothing.
 use Prim.Native.Nat.{ℕ, zero, suc, _+_, _*_, _≤_, _<_, _/_, _%_}
 use mathlib.Core.Path.{_≡_, refl, sym, ap, _∙_}
-use mathlib.Core.Bool.{true}
+use mathlib.Core.Bool.{true, false}
 use mathlib.Core.List.{List, [], _∷_, _++_, map, map-append}
 use native.Mathlib.Nat.{div-eq-of-lt, div-mul-le-self, div-add-mod', mod-lt}
 use native.Mathlib.Omega.{arith}
+use lib.Dec.{ltb}
 use lib.Ieee.{Float}
 use lib.ListN.{length, getD, length-append, length-map, List·getD-append}
-use borrow.Author.Tests.{le-leb}
+use borrow.Author.Tests.{le-leb, lt-leb, eq-eqb, ne-eqb}
+use Rattle.refusal.specs.declared.Refusal.the-variants.{NoBlockSize, BufferTooShort, OutsideLimits}
+use Rattle.refusal.specs.declared.Verdict.{Verdict}
+use Rattle.refusal.specs.declared.Verdict.the-variants.{Accepted, Refused}
+use Rattle.refusal.specs.First.{firstOf}
 use Rattle.lists.specs.Lists.{from, lastOr, neverFalls, between}
 use Rattle.lists.specs.Laws.{from-length as length-from}
-use Rattle.blocking.specs.Blocking.{starts, fixedOffsets, centroidCount}
+use Rattle.blocking.specs.declared.BlockingAnswer.{BlockingAnswer}
+use Rattle.blocking.specs.Limits.{listLimit, blockLimit}
+use Rattle.blocking.specs.Blocking.{starts, fixedOffsets, blockingTests, answered, blocked, left, offsetsLeft, centroidCount}
 
 -- ---- the starts of k blocks
 from-more : (a k : ℕ) → from a (suc k) ≡ from a k ++ ((a + k) ∷ [])
@@ -72,3 +79,31 @@ no-blocks n b ids h = ap (λ offsets. between offsets ids) (short-list n b h)
 -- ---- there is at least one centroid
 pub some-centroid : (fraction : Float) (n : ℕ) → 1 ≤ centroidCount fraction n
 some-centroid fraction n = omega arith
+
+-- ---- which answer is given, and what it leaves in the lent buffer
+-- an answer with the buffer that it leaves is what blocking comes to
+abbrev pub Blocks : ℕ → ℕ → List ℕ → BlockingAnswer → List ℕ → Type 0
+Blocks n b buffer answer after = (answer ≡ blocked n b buffer) × (after ≡ offsetsLeft n b buffer)
+
+module _ (n b : ℕ) (buffer : List ℕ) where
+  by-verdict : (v : Verdict) → firstOf (blockingTests n b (length buffer)) ≡ v → Blocks n b buffer (answered v (n / b + 1)) (left v (fixedOffsets n b) buffer)
+  unfolding blocked offsetsLeft
+  by-verdict v e = (ap (λ w. answered w (n / b + 1)) (sym e), ap (λ w. left w (fixedOffsets n b) buffer) (sym e))
+
+  pub length-refused : ltb listLimit n ≡ true → Blocks n b buffer (answered (Refused OutsideLimits) 0) buffer
+  length-refused h = by-verdict (Refused OutsideLimits) (rw h)
+
+  module _ (short : ltb listLimit n ≡ false) where
+    pub size-refused : b ≡ 0 → Blocks n b buffer (answered (Refused NoBlockSize) 0) buffer
+    size-refused h = by-verdict (Refused NoBlockSize) (rw (short, eq-eqb b 0 h))
+
+    module _ (size : b ≡ 0 → ⊥) where
+      pub blocks-refused : ltb blockLimit (n / b) ≡ true → Blocks n b buffer (answered (Refused OutsideLimits) 0) buffer
+      blocks-refused h = by-verdict (Refused OutsideLimits) (rw (short, ne-eqb b 0 size, h))
+
+      module _ (few : ltb blockLimit (n / b) ≡ false) where
+        pub buffer-refused : length buffer ≤ n / b → Blocks n b buffer (answered (Refused BufferTooShort) 0) buffer
+        buffer-refused h = by-verdict (Refused BufferTooShort) (rw (short, ne-eqb b 0 size, few, le-leb (length buffer) (n / b) h))
+
+        pub offsets-written : n / b < length buffer → Blocks n b buffer (answered Accepted (n / b + 1)) (left Accepted (fixedOffsets n b) buffer)
+        offsets-written h = by-verdict Accepted (rw (short, ne-eqb b 0 size, few, lt-leb (length buffer) (n / b) h))

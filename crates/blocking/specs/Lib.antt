@@ -1,4 +1,5 @@
 pub mod Limits
+pub mod LimitLaws
 pub mod Blocking
 pub mod Laws
 pub mod Shares

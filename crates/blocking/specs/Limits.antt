@@ -1,14 +1,19 @@
--- The limits on a posting list: document 01, "Numbers". They stand here and nowhere else.
+-- The limits on a posting list: document 01, "Numbers" and "Numbered refusals". They stand here and nowhere else; other crates know of them
+-- what LimitLaws says.
 use Prim.Native.Nat.{ℕ}
 
 -- as many ids as a list may have
-abbrev pub listLimit : ℕ
+unfoldable pub listLimit : ℕ
 listLimit = 16777216
 
 -- as many blocks as a list may have
-abbrev pub blockLimit : ℕ
+unfoldable pub blockLimit : ℕ
 blockLimit = 65535
 
+-- as many centroids as may be asked for
+unfoldable pub centroidLimit : ℕ
+centroidLimit = 65535
+
 -- the greatest dimension; the least is 1
-abbrev pub dimensionLimit : ℕ
+unfoldable pub dimensionLimit : ℕ
 dimensionLimit = 1048575

@@ -1,6 +1,6 @@
 -- What the numbers choose, and the numbers of an answer. Assumes nothing.
 use Prim.Native.Nat.{ℕ}
-use mathlib.Core.Path.{_≡_, refl, ap}
+use mathlib.Core.Path.{_≡_, sym, ap, _∙_}
 use borrow.Author.Tests.{eq-eqb, ne-eqb}
 use lib.Ieee.{Float}
 use Rattle.refusal.specs.declared.Refusal.{Refusal}
@@ -12,8 +12,8 @@ use Rattle.configuration.specs.declared.SummarizationStrategy.the-variants as s
 use Rattle.building.specs.declared.BuiltSizes.{BuiltSizes}
 use Rattle.building.specs.declared.BuildAnswer.{BuildAnswer}
 use Rattle.building.specs.declared.BuildAnswer.the-variants.{Refused, Built}
+use Rattle.building.specs.Building.{numbers, inNumbers}
 use Rattle.build_numbers.specs.Chosen.{algorithmOf, blockingOf, summarizationOf}
-use Rattle.build_numbers.specs.Shown.{BuiltNumbers}
 
 -- ---- the choices
 pub exact-chosen : (b cut : ℕ) → b ≡ 1 → algorithm.RandomKmeans ≡ algorithmOf b cut
@@ -41,8 +41,8 @@ unfolding summarizationOf
 energy-chosen s size energy n = simp (ne-eqb s 0 n)
 
 -- ---- the numbers of a build's answer
-pub refused-numbers : (a : BuildAnswer) (r : Refusal) (n : ℕ) → a ≡ Refused r → n ≡ numberOf r → BuiltNumbers a n 0 0 0 0 0
-refused-numbers a r n e h = rw e (h, refl, refl, refl, refl, refl)
+pub refused-numbers : (a : BuildAnswer) (r : Refusal) (n : ℕ) → a ≡ Refused r → n ≡ numberOf r → numbers n 0 0 0 0 0 ≡ inNumbers a
+refused-numbers a r n e h = ap (λ m. numbers m 0 0 0 0 0) h ∙ ap inNumbers (sym e)
 
-pub built-numbers : (a : BuildAnswer) (z : BuiltSizes) → a ≡ Built z → BuiltNumbers a 0 (z .postings) (z .offsets) (z .components) (z .entries) (z .summaries)
-built-numbers a z e = rw e (refl, refl, refl, refl, refl, refl)
+pub built-numbers : (a : BuildAnswer) (z : BuiltSizes) → a ≡ Built z → numbers 0 (z .postings) (z .offsets) (z .components) (z .entries) (z .summaries) ≡ inNumbers a
+built-numbers a z e = ap inNumbers (sym e)

@@ -10,14 +10,14 @@ use Rattle.configuration.specs.declared.ClusteringAlgorithm.the-variants as alg
 use Rattle.configuration.specs.declared.SummarizationStrategy.{SummarizationStrategy}
 use Rattle.configuration.specs.declared.SummarizationStrategy.the-variants as summary
 
--- 1 for the dot product with each centroid, any other number for a document's largest terms
+-- 1 for the dot product with each centroid, 2 for a document's largest terms; any other number does as 2, and is reserved
 unfoldable pub algorithmOf : ℕ → ℕ → ClusteringAlgorithm
 algorithmOf blocking docCut = cond (eqb blocking 1) algorithm.RandomKmeans (algorithm.RandomKmeansInvertedIndexApprox docCut)
 
--- 0 for a fixed size, any other number for the nearest centroid
+-- 0 for a fixed size, 1 and 2 for the nearest centroid; any other number does as 2, and is reserved
 unfoldable pub blockingOf : ℕ → ℕ → Float → ℕ → ℕ → BlockingStrategy
 blockingOf blocking size fraction minimum docCut = cond (eqb blocking 0) (FixedSize size) (RandomKmeans fraction minimum (algorithmOf blocking docCut))
 
--- 0 for a fixed size, any other number for energy
+-- 0 for a fixed size, 1 for energy; any other number does as 1, and is reserved
 unfoldable pub summarizationOf : ℕ → ℕ → Float → SummarizationStrategy
 summarizationOf summarization size energy = cond (eqb summarization 0) (summary.FixedSize size) (summary.EnergyPreserving energy)

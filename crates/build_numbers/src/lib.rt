@@ -4,10 +4,11 @@ use configuration::BlockingStrategy;
 use configuration::ClusteringAlgorithm;
 use configuration::SummarizationStrategy;
 ghost use mathlib.Core.Path.{_≡_};
+ghost use Rattle.building.specs.Building.{numbers, inNumbers};
 ghost use Rattle.build_numbers.specs.Chosen.{algorithmOf, blockingOf, summarizationOf};
-ghost use Rattle.build_numbers.specs.Shown.{buildNumber, sizesOf};
 
-// How the nearest centroid is found: 1 is by each dot product, any other number by a document's largest terms.
+// How the nearest centroid is found: 1 is by each dot product, 2 by a document's largest terms. Any other number does as 2, and is
+// reserved.
 fn algorithm_of(blocking: u64, doc_cut: u64) -> ClusteringAlgorithm
     ensures { λ r. ⌜ r ≡ algorithmOf blocking «doc_cut» ⌝ }
 {
@@ -17,7 +18,7 @@ fn algorithm_of(blocking: u64, doc_cut: u64) -> ClusteringAlgorithm
     ClusteringAlgorithm::RandomKmeansInvertedIndexApprox { doc_cut }
 }
 
-// How the postings are cut into blocks: 0 is by a fixed size, any other number by nearest centroid.
+// How the postings are cut into blocks: 0 is by a fixed size, 1 and 2 by nearest centroid. Any other number does as 2, and is reserved.
 pub fn blocking_of(
     blocking: u64,
     block_size: u64,
@@ -37,7 +38,7 @@ pub fn blocking_of(
     }
 }
 
-// Which terms a summary keeps: 0 is a fixed number of them, any other number by energy.
+// Which terms a summary keeps: 0 is a fixed number of them, 1 by energy. Any other number does as 1, and is reserved.
 pub fn summarization_of(
     summarization: u64,
     n_components: u64,
@@ -60,7 +61,7 @@ pub fn show_built(
     entries: &mut u64,
     summaries: &mut u64,
 ) -> u64
-    ensures { λ r. ⌜ (r ≡ buildNumber answer) × (now (postings .exit) ≡ sizesOf answer .postings) × (now (offsets .exit) ≡ sizesOf answer .offsets) × (now (components .exit) ≡ sizesOf answer .components) × (now (entries .exit) ≡ sizesOf answer .entries) × (now (summaries .exit) ≡ sizesOf answer .summaries) ⌝ }
+    ensures { λ r. ⌜ numbers r (now (postings .exit)) (now (offsets .exit)) (now (components .exit)) (now (entries .exit)) (now (summaries .exit)) ≡ inNumbers answer ⌝ }
 {
     *postings = 0;
     *offsets = 0;

@@ -9,6 +9,7 @@ use lib.Ieee.{Float, fin}
 use Rattle.refusal.specs.declared.Refusal.the-variants.{BufferTooShort, EmptySummary}
 use Rattle.refusal.specs.declared.Verdict.{Verdict}
 use Rattle.refusal.specs.declared.Verdict.the-variants.{Accepted, Refused}
+use Rattle.refusal.specs.Refusals.{numberOf}
 use Rattle.refusal.specs.First.{Test, _gives_, firstOf}
 use Rattle.lists.specs.Lists.{every}
 use Rattle.admission.specs.Admission.{inputTests}
@@ -174,6 +175,23 @@ sizesBuilt b = record {
 abbrev pub answerBy : Verdict → Built → BuildAnswer
 answerBy Accepted b = answer.Built (sizesBuilt b)
 answerBy (Refused r) b = answer.Refused r
+
+-- an answer in document 01's terms, under the names of include/merino.h: the number of the refusal, 0 for none, and how many numbers of
+-- the result stand in front of the output buffers, none where the build is refused
+pub record InNumbers : Type 0 where
+  pub number : ℕ
+  pub postingsWritten : ℕ
+  pub offsetsWritten : ℕ
+  pub componentsWritten : ℕ
+  pub entriesWritten : ℕ
+  pub summariesWritten : ℕ
+
+abbrev pub numbers : ℕ → ℕ → ℕ → ℕ → ℕ → ℕ → InNumbers
+numbers n p o c e s = record { number = n; postingsWritten = p; offsetsWritten = o; componentsWritten = c; entriesWritten = e; summariesWritten = s }
+
+abbrev pub inNumbers : BuildAnswer → InNumbers
+inNumbers (answer.Refused r) = numbers (numberOf r) 0 0 0 0 0
+inNumbers (answer.Built s) = numbers 0 (s .postings) (s .offsets) (s .components) (s .entries) (s .summaries)
 
 pub record Left : Type 0 where
   pub answer : BuildAnswer

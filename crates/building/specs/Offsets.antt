@@ -16,6 +16,8 @@ use Rattle.configuration.specs.declared.ClusteringAlgorithm.{ClusteringAlgorith
 use Rattle.lists.specs.Lists.{lastOr, joined, offsetsFrom, neverFalls}
 use Rattle.lists.specs.Groups.{offsets-rise, offsets-count, offsets-last}
 use Rattle.lists.specs.Laws.{between-count, never-test}
+use Rattle.blocking.specs.Limits.{blockLimit, centroidLimit}
+use Rattle.blocking.specs.LimitLaws.{centroids-within}
 use Rattle.blocking.specs.Blocking.{centroidCount}
 use Rattle.blocking.specs.Laws as fixed
 use Rattle.clusters.specs.Clusters.{clusters, documentOf}
@@ -85,18 +87,18 @@ as-many g = go (g .blocking)
 
 -- ---- what an accepted input says of its numbers
 module _ (g : Input) where
-  few-fixed : (size : ℕ) → Faultless (blockingFaults (FixedSize size) (length (g .ids)) (length (g .centroids))) → length (blockedIn (FixedSize size) g .offsets) - 1 ≤ 65535
-  few-fixed size f = let n = fixed.offsets-number (length (g .ids)) size in let h = ltb-false 65535 (length (g .ids) / size) (f .1 .0) in omega arith
+  few-fixed : (size : ℕ) → Faultless (blockingFaults (FixedSize size) (length (g .ids)) (length (g .centroids))) → length (blockedIn (FixedSize size) g .offsets) - 1 ≤ blockLimit
+  few-fixed size f = let n = fixed.offsets-number (length (g .ids)) size in let h = ltb-false blockLimit (length (g .ids) / size) (f .1 .0) in omega arith
 
   -- the centroids listed are as many as wanted, so there are no more blocks than centroids may be
-  pub right-count : (fraction : Float) (n listed : ℕ) → wrongCentroids fraction n listed ≡ false → (n ≡ 0 → ⊥) → (0 < listed) × (listed ≤ 65535) × (listed ≤ n)
-  right-count fraction n listed f some = go (ltb 65535 (centroidCount fraction n)) refl (eqb listed (min (centroidCount fraction n) n)) refl (rw (ne-eqb n 0 some) at f)
+  pub right-count : (fraction : Float) (n listed : ℕ) → wrongCentroids fraction n listed ≡ false → (n ≡ 0 → ⊥) → (0 < listed) × (listed ≤ centroidLimit) × (listed ≤ n)
+  right-count fraction n listed f some = go (ltb centroidLimit (centroidCount fraction n)) refl (eqb listed (min (centroidCount fraction n) n)) refl (rw (ne-eqb n 0 some) at f)
     where
-      go : (a : Bool) → ltb 65535 (centroidCount fraction n) ≡ a → (b : Bool) → eqb listed (min (centroidCount fraction n) n) ≡ b → (a || not b) ≡ false → (0 < listed) × (listed ≤ 65535) × (listed ≤ n)
+      go : (a : Bool) → ltb centroidLimit (centroidCount fraction n) ≡ a → (b : Bool) → eqb listed (min (centroidCount fraction n) n) ≡ b → (a || not b) ≡ false → (0 < listed) × (listed ≤ centroidLimit) × (listed ≤ n)
       go true p b q h = absurd (true≢false h)
       go false p false q h = absurd (true≢false h)
       go false p true q h =
-          let c = ltb-false 65535 (centroidCount fraction n) p in
+          let c = ltb-false centroidLimit (centroidCount fraction n) p in
           let e = eqb-true listed (min (centroidCount fraction n) n) q in
           let o = fixed.some-centroid fraction n in
           (at listed (centroidCount fraction n) n e o (λ z. some z), within listed (centroidCount fraction n) n e c, below listed (centroidCount fraction n) n e)
@@ -105,31 +107,31 @@ module _ (g : Input) where
           at l c zero e o s = absurd (s refl)
           at l c (suc n) e o s = omega arith
 
-          within : (l c n : ℕ) → l ≡ min c n → c ≤ 65535 → l ≤ 65535
+          within : (l c n : ℕ) → l ≡ min c n → c ≤ centroidLimit → l ≤ centroidLimit
           within l c n e o = omega arith
 
           below : (l c n : ℕ) → l ≡ min c n → l ≤ n
           below l c n e = omega arith
 
-  few-clusters : (fraction : Float) (minimum : ℕ) (k : ClusteringAlgorithm) → Faultless (blockingFaults (RandomKmeans fraction minimum k) (length (g .ids)) (length (g .centroids))) → length (blockedIn (RandomKmeans fraction minimum k) g .offsets) - 1 ≤ 65535
+  few-clusters : (fraction : Float) (minimum : ℕ) (k : ClusteringAlgorithm) → Faultless (blockingFaults (RandomKmeans fraction minimum k) (length (g .ids)) (length (g .centroids))) → length (blockedIn (RandomKmeans fraction minimum k) g .offsets) - 1 ≤ blockLimit
   few-clusters fraction minimum k f = offsets (clusters (assignedIn k minimum g)) (go (ℕ-discrete (length (g .ids)) 0))
     where
-      offsets : (bs : List (List ℕ)) → length bs ≤ 65535 → length ((inClusters bs) .offsets) - 1 ≤ 65535
+      offsets : (bs : List (List ℕ)) → length bs ≤ blockLimit → length ((inClusters bs) .offsets) - 1 ≤ blockLimit
       offsets [] h = omega arith
       offsets (b ∷ bs) h = let c = offsets-count 0 (b ∷ bs) in omega arith
 
-      go : Dec (length (g .ids) ≡ 0) → length (clusters (assignedIn k minimum g)) ≤ 65535
+      go : Dec (length (g .ids) ≡ 0) → length (clusters (assignedIn k minimum g)) ≤ blockLimit
       go (yes z) =
           let a = blocks-few (assignedIn k minimum g) in
           let b = length-map (assignedIn k minimum g) documentOf in
           let e = ap length (assigned-documents k minimum g) in
           omega arith
-      go (no z) = let r = right-count fraction (length (g .ids)) (length (g .centroids)) (f .0) z in let w = blocks-within g (r .0) k minimum in omega (arith, r .1)
+      go (no z) = let r = right-count fraction (length (g .ids)) (length (g .centroids)) (f .0) z in let w = blocks-within g (r .0) k minimum in let s = centroids-within (length (g .centroids)) (r .1) in omega arith
 
-  pub few-blocks : Faultless (blockingFaults (g .blocking) (length (g .ids)) (length (g .centroids))) → length (summaries g) ≤ 65535
+  pub few-blocks : Faultless (blockingFaults (g .blocking) (length (g .ids)) (length (g .centroids))) → length (summaries g) ≤ blockLimit
   unfolding blocks
-  few-blocks f = subst (λ n. n ≤ 65535) (sym (summary-count g)) (go (g .blocking) f)
+  few-blocks f = subst (λ n. n ≤ blockLimit) (sym (summary-count g)) (go (g .blocking) f)
     where
-      go : (k : BlockingStrategy) → Faultless (blockingFaults k (length (g .ids)) (length (g .centroids))) → length (blockedIn k g .offsets) - 1 ≤ 65535
+      go : (k : BlockingStrategy) → Faultless (blockingFaults k (length (g .ids)) (length (g .centroids))) → length (blockedIn k g .offsets) - 1 ≤ blockLimit
       go (FixedSize size) f = few-fixed size f
       go (RandomKmeans fraction minimum k) f = few-clusters fraction minimum k f

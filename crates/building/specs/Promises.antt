@@ -1,26 +1,22 @@
--- What a build promises, over the definitions alone: a built list is never refused for 9, and each value read back is near to what was
--- summarized. Blocks share out the list by Shares. Assumes nothing.
+-- What a build promises, over the definitions alone: each summary can be stored, and a built list is never refused for 9. Blocks share out
+-- the list by Shares. Assumes nothing.
 use Prim.Native.Nat.{ℕ, _≤_, _<_}
 use native.Mathlib.Omega.{arith}
 use mathlib.Core.Path.{_≡_, sym, subst}
 use mathlib.Core.Bool.{true}
-use mathlib.Core.List.{List}
 use lib.ListN.{length, getD, length-map}
-use lib.Dec.{T}
-use lib.Ieee.{nan, le}
 use borrow.Author.Tests.{ltb-false, not-false}
 use Rattle.refusal.specs.declared.Verdict.the-variants.{Accepted}
 use Rattle.refusal.specs.First.{Faultless, faultless, faultless-both}
 use Rattle.lists.specs.Lists.{EachOf}
 use Rattle.lists.specs.Laws.{or-left, every-front}
-use Rattle.documents.specs.Documents.{Term, packed}
+use Rattle.blocking.specs.Limits.{listLimit, blockLimit}
+use Rattle.documents.specs.Documents.{packed}
 use Rattle.documents.specs.Checks.{documentsHold, termsHoldBelow}
 use Rattle.documents.specs.Documents.{terms}
-use Rattle.quantizing.specs.Quantizing.{least, greatest, stepFor, codeOf, readBack}
-use Rattle.quantizing.specs.Demand3.{F32s, Drifts, leastStep}
-use Rattle.quantizing.specs.Promises.{value-drift}
+use Rattle.quantizing.specs.Demand3.{F32s}
 use Rattle.quantized_summary.specs.WellFormed.{wellFormed}
-use Rattle.layout.specs.Layouts.{values, layout}
+use Rattle.layout.specs.Layouts.{layout}
 use Rattle.layout.specs.Passes.{Storable, built-passes}
 use Rattle.admission.specs.Admission.{centroidsUsed, inputTests}
 use Rattle.building.specs.Built.{Input, blocks, summaries, built}
@@ -34,15 +30,15 @@ module _ (g : Input) (lent : Lent) (narrow : (k : ℕ) → getD (g .documents .c
   unfolding verdictOf tests
   found = faultless-both (inputTests (g .dimension) (g .blocking) (g .documents) (g .ids) (g .centroids)) (roomTests g lent) (faultless (tests g lent) accepted)
 
-  short : length (g .ids) ≤ 16777216
+  short : length (g .ids) ≤ listLimit
   unfolding inputTests
-  short = ltb-false 16777216 (length (g .ids)) (or-left _ _ (found .0 .0))
+  short = ltb-false listLimit (length (g .ids)) (or-left _ _ (found .0 .0))
 
   hold : documentsHold (g .dimension) (g .documents) (g .ids) ≡ true
   unfolding inputTests documentsHold
   hold = every-front (λ i. termsHoldBelow (g .dimension) (terms (g .documents) i)) (g .ids) (centroidsUsed (g .blocking) (g .centroids)) (not-false _ (found .0 .1 .1 .0))
 
-  few : length (summaries g) ≤ 65535
+  few : length (summaries g) ≤ blockLimit
   unfolding inputTests
   few = few-blocks g (found .0 .1 .1 .1 .1 .1)
 
@@ -56,8 +52,3 @@ module _ (g : Input) (lent : Lent) (narrow : (k : ℕ) → getD (g .documents .c
   built-well-formed =
       subst (λ n. wellFormed n (blocks g .offsets) (layout (summaries g)) ≡ true) (sym (length-map (blocks g .documents) (packed (g .documents))))
       (built-passes (summaries g) storable (length (blocks g .documents)) (blocks g .offsets) few (let e = as-many g in let s = short in omega arith) (blocks-hold g))
-
--- demand 3 holds of each block's summary as built: the value read back from the stored minimum and step and the entry's code
-pub stored-drift : (s : List Term) → Storable s → T (le leastStep (stepFor (values s))) → (k : ℕ) → k < length (values s)
-    → let v = getD (values s) k nan in Drifts (least (values s)) (greatest (values s)) (stepFor (values s)) v (readBack (least (values s)) (stepFor (values s)) (codeOf (least (values s)) (stepFor (values s)) v))
-stored-drift s h st k l = value-drift (values s) (h .floats) (h .list) st k l

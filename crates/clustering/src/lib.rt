@@ -119,8 +119,10 @@ fn write_blocks(
 // Clusters the listed documents in the chosen mode: leaves the blocks' documents one after another in `order`, with zeros after them,
 // and the blocks' offsets in `blocks`, from its start on; what lies past them stays. Answers how many blocks there are, or the refusal
 // 14, 5 or 4, and then changes nothing. The other slices are scratch, all zero after an accepted call. It takes time in proportion to
-// the documents' terms times the centroids that share a component with them, to n log n for n ids, and in the approximate mode to the
-// sort of each document's terms.
+// the slices that it clears and to the terms of the listed documents and centroids; for n ids and m centroids to n log n and m log m
+// for their sorts, and to n log m for the ranks; then in the exact mode to n times m and to the entries of the centroids' index that
+// the documents' terms meet, and in the approximate mode to the sort of each document's terms and to the entries that the terms of its
+// cut meet.
 pub fn cluster(
     dimension: u64,
     minimum: u64,

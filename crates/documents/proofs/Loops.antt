@@ -5,51 +5,47 @@ use native.Mathlib.Numerals.{add-one}
 use mathlib.Core.Path.{_≡_, refl, sym, ap, _∙_}
 use mathlib.Core.List.{List}
 use lib.ListN.{length, getD, List·getD-eq-default}
-use Rattle.documents.specs.declared.DocumentRange.{DocumentRange}
 use Rattle.documents.specs.declared.TermPlaces.{TermPlaces}
-use Rattle.documents.specs.Answers.{rangeOf, placesOf}
+use Rattle.documents.specs.Answers.{betweenOf, placesOf}
 
--- ---- ranges
-abbrev range : ℕ → ℕ → DocumentRange
-range s e = record { start = record { 0 = s }; end = e }
+-- ---- what lies between two offsets
+abbrev places : ℕ → ℕ → TermPlaces
+places f t = record { from = f; to = t }
 
-range-is : (os : List ℕ) (i : ℕ) {s e : ℕ} → s ≡ getD os i 0 → e ≡ getD os i 0 + (getD os (suc i) 0 - getD os i 0) → range s e ≡ rangeOf os i
-range-is os i {s} {e} p q = ap (λ z. range z e) p ∙ ap (range (getD os i 0)) q
+between-is : (os : List ℕ) (i : ℕ) {f t : ℕ} → f ≡ getD os i 0 → t ≡ getD os i 0 + (getD os (suc i) 0 - getD os i 0) → places f t ≡ betweenOf os i
+between-is os i {f} {t} p q = ap (λ z. places z t) p ∙ ap (places (getD os i 0)) q
 
-pub range-past : (os : List ℕ) (i : ℕ) → length os ≤ i → record { start = record { 0 = 0 }; end = 0 } ≡ rangeOf os i
-range-past os i h =
+pub between-past : (os : List ℕ) (i : ℕ) → length os ≤ i → record { from = 0; to = 0 } ≡ betweenOf os i
+between-past os i h =
     let p : getD os i 0 ≡ 0 = List·getD-eq-default os 0 h in
     let q : getD os (suc i) 0 ≡ 0 = List·getD-eq-default os 0 {n = suc i} (omega arith) in
-    range-is os i (sym p) (omega arith)
+    between-is os i (sym p) (omega arith)
 
-pub range-last : (os : List ℕ) (i : ℕ) → length os ≤ i + 1 → record { start = record { 0 = getD os i 0 }; end = getD os i 0 } ≡ rangeOf os i
-range-last os i h =
+pub between-last : (os : List ℕ) (i : ℕ) → length os ≤ i + 1 → record { from = getD os i 0; to = getD os i 0 } ≡ betweenOf os i
+between-last os i h =
     let q : getD os (suc i) 0 ≡ 0 = List·getD-eq-default os 0 {n = suc i} (omega arith) in
-    range-is os i refl (omega arith)
+    between-is os i refl (omega arith)
 
-pub range-empty : (os : List ℕ) (i : ℕ) → getD os (i + 1) 0 < getD os i 0 → record { start = record { 0 = getD os i 0 }; end = getD os i 0 } ≡ rangeOf os i
-range-empty os i h = let q : getD os (suc i) 0 < getD os i 0 = rw add-one at h in range-is os i refl (omega arith)
+pub between-empty : (os : List ℕ) (i : ℕ) → getD os (i + 1) 0 < getD os i 0 → record { from = getD os i 0; to = getD os i 0 } ≡ betweenOf os i
+between-empty os i h = let q : getD os (suc i) 0 < getD os i 0 = rw add-one at h in between-is os i refl (omega arith)
 
-pub range-whole : (os : List ℕ) (i : ℕ) → getD os i 0 ≤ getD os (i + 1) 0 → record { start = record { 0 = getD os i 0 }; end = getD os (i + 1) 0 } ≡ rangeOf os i
-range-whole os i h = let q : getD os i 0 ≤ getD os (suc i) 0 = rw add-one at h in range-is os i refl (rw add-one (omega arith))
+pub between-whole : (os : List ℕ) (i : ℕ) → getD os i 0 ≤ getD os (i + 1) 0 → record { from = getD os i 0; to = getD os (i + 1) 0 } ≡ betweenOf os i
+between-whole os i h = let q : getD os i 0 ≤ getD os (suc i) 0 = rw add-one at h in between-is os i refl (rw add-one (omega arith))
 
--- ---- places: a range cut to what there is
-module _ (os : List ℕ) (n i : ℕ) (r : DocumentRange) (e : r ≡ rangeOf os i) where
-  cut : {f t : ℕ} → f ≡ min (r .start .0) n → t ≡ min (r .end) n → _≡_ {A = TermPlaces} (record { from = f; to = t }) (placesOf os n i)
-  cut {f} {t} p q =
-      ap (λ z. record { from = z; to = t }) p
-      ∙ ap (λ z. record { from = min (r .start .0) n; to = z }) q
-      ∙ ap (λ z. record { from = min (z .start .0) n; to = min (z .end) n }) e
+-- ---- places: these cut to what there is
+module _ (os : List ℕ) (n i : ℕ) (r : TermPlaces) (e : r ≡ betweenOf os i) where
+  cut : {f t : ℕ} → f ≡ min (r .from) n → t ≡ min (r .to) n → places f t ≡ placesOf os n i
+  cut {f} {t} p q = ap (λ z. places z t) p ∙ ap (places (min (r .from) n)) q ∙ ap (λ z. places (min (z .from) n) (min (z .to) n)) e
 
-  pub places-past : n ≤ r .start .0 → record { from = n; to = n } ≡ placesOf os n i
+  pub places-past : n ≤ r .from → record { from = n; to = n } ≡ placesOf os n i
   places-past h =
-      let o : rangeOf os i .start .0 ≤ rangeOf os i .end = omega arith in
-      let s = ap (λ z. z .start .0) e in
-      let t = ap (λ z. z .end) e in
+      let o : betweenOf os i .from ≤ betweenOf os i .to = omega arith in
+      let s = ap (λ z. z .from) e in
+      let t = ap (λ z. z .to) e in
       cut (omega arith) (omega arith)
 
-  pub places-cut : r .start .0 < n → n ≤ r .end → record { from = r .start .0; to = n } ≡ placesOf os n i
+  pub places-cut : r .from < n → n ≤ r .to → record { from = r .from; to = n } ≡ placesOf os n i
   places-cut h k = cut (omega arith) (omega arith)
 
-  pub places-whole : r .start .0 < n → r .end < n → record { from = r .start .0; to = r .end } ≡ placesOf os n i
+  pub places-whole : r .from < n → r .to < n → record { from = r .from; to = r .to } ≡ placesOf os n i
   places-whole h k = cut (omega arith) (omega arith)

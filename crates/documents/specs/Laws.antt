@@ -3,15 +3,17 @@ use Prim.Native.Nat.{ℕ, zero, suc, _-_, _≤_, _<_}
 use native.Mathlib.Omega.{arith}
 use mathlib.Core.Path.{_≡_, refl, sym, ap, _∙_}
 use mathlib.Core.Bool.{Bool, true, false, _&&_, true≢false, and-true, and-false}
-use mathlib.Core.List.{List, [], _∷_, map, zipWith}
+use mathlib.Core.List.{List, [], _∷_, map, foldl, zipWith}
 use lib.ListN.{length, getD}
-use lib.Dec.{leb, ltb, eqb}
-use lib.Ieee.{Float}
+use lib.Dec.{T, leb, ltb, eqb}
+use lib.Ieee.{Float, binary32, fits, add}
+use lib.Ieee.Fits.{add-fits}
 use borrow.Author.Tests.{leb-true, ltb-true, eqb-true, eq-eqb, ne-eqb, lt-ltb, le-leb}
 use Rattle.float32.specs.Bound.{inBound}
+use Rattle.float32.specs.Comparisons.{zeroOf, zero-fits}
 use Rattle.lists.specs.Lists.{every, firstOr, lastOr, neverFalls, strictlyRise}
 use Rattle.lists.specs.Laws.{both}
-use Rattle.documents.specs.Documents.{paired, documents}
+use Rattle.documents.specs.Documents.{Term, paired, documents, products, dot}
 use Rattle.documents.specs.Checks.{offsetsHoldFree, offsetsHold, termsHold, termsHoldBelow, slicesHold, slicesHoldBelow}
 
 -- ---- two tests that both pass
@@ -176,3 +178,12 @@ module _ (os cs : List ℕ) (vs : List Float) where
   pub offsets-hold-rest : 0 < length os → length cs ≡ length vs → getD os (length os - 1) 0 ≡ length cs → offsetsHold (documents os cs vs) ≡ offsetsHoldFree os
   unfolding offsetsHold
   offsets-hold-rest p e h = rw (last-at 0 os p, eq-eqb (getD os (length os - 1) 0) (length cs) h, eq-eqb (length cs) (length vs) e, and-true)
+
+-- ---- a dot product is an f32
+pub dot-fits : (query ts : List Term) → T (fits binary32 (dot query ts))
+unfolding dot
+dot-fits query ts = sum-fits (products query ts) (zeroOf false) (zero-fits false)
+  where
+    sum-fits : (xs : List Float) (x : Float) → T (fits binary32 x) → T (fits binary32 (foldl (add binary32) x xs))
+    sum-fits [] x f = f
+    sum-fits (y ∷ xs) x f = sum-fits xs (add binary32 x y) (add-fits binary32 x y)

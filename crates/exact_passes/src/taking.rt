@@ -1,4 +1,5 @@
 // The documents taken, pass by pass: the first greatest score above 0 decides, and a listed centroid takes itself the first time.
+use names::CentroidRank;
 use names::DocumentId;
 use ranking::is_listed;
 use ranking::rank;
@@ -23,8 +24,8 @@ fn first_rank(
     slots: &[u64],
     weights: &[f32],
     scores: &mut [f32],
-) -> u64
-    ensures { λ r. ⌜ r ≡ rankIn (now (known .entry)) (firstChoice (now (known .entry)) (now (centroids .entry)) (documents (now (starts .entry)) (now (slots .entry)) (now (weights .entry))) (length (now (scores .entry)))
+) -> CentroidRank
+    ensures { λ r. ⌜ r .0 ≡ rankIn (now (known .entry)) (firstChoice (now (known .entry)) (now (centroids .entry)) (documents (now (starts .entry)) (now (slots .entry)) (now (weights .entry))) (length (now (scores .entry)))
         (documents (now (offsets .entry)) (now (components .entry)) (now (values .entry))) (document .0)) ⌝ }
 {
     let own = rank(known, document);
@@ -65,7 +66,7 @@ pub(crate) fn first_pass(
 {
     let mut i = 0usize;
     while i < ids.len() {
-        taken[i] = first_rank(
+        let r = first_rank(
             offsets,
             components,
             values,
@@ -77,6 +78,7 @@ pub(crate) fn first_pass(
             weights,
             scores,
         );
+        taken[i] = r.0;
         i += 1;
     }
 }
@@ -88,7 +90,7 @@ fn second_rank(
     components: &[u32],
     values: &[f32],
     document: DocumentId,
-    own: u64,
+    own: CentroidRank,
     minimum: u64,
     centroids: &[u64],
     known: &[u64],
@@ -97,9 +99,9 @@ fn second_rank(
     slots: &[u64],
     weights: &[f32],
     scores: &mut [f32],
-) -> u64
-    ensures { λ r. ⌜ r ≡ secondRank (now (known .entry)) (now (counts .entry)) minimum (now (centroids .entry)) (documents (now (starts .entry)) (now (slots .entry)) (now (weights .entry))) (length (now (scores .entry)))
-        (documents (now (offsets .entry)) (now (components .entry)) (now (values .entry))) (document .0) own ⌝ }
+) -> CentroidRank
+    ensures { λ r. ⌜ r .0 ≡ secondRank (now (known .entry)) (now (counts .entry)) minimum (now (centroids .entry)) (documents (now (starts .entry)) (now (slots .entry)) (now (weights .entry))) (length (now (scores .entry)))
+        (documents (now (offsets .entry)) (now (components .entry)) (now (values .entry))) (document .0) (own .0) ⌝ }
 {
     if took_itself(known, counts, minimum, document, own) {
         let c = assignment::nearest_to(
@@ -140,8 +142,8 @@ pub(crate) fn second_pass(
 {
     let mut i = 0usize;
     while i < ids.len() {
-        let own = taken[i];
-        taken[i] = second_rank(
+        let own = CentroidRank(taken[i]);
+        let r = second_rank(
             offsets,
             components,
             values,
@@ -156,6 +158,7 @@ pub(crate) fn second_pass(
             weights,
             scores,
         );
+        taken[i] = r.0;
         i += 1;
     }
 }

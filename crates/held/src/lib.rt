@@ -18,11 +18,22 @@ pub struct Block {
     pub end: u64,
 }
 
-// A score at a place, or a NaN where there is none: with it no block is skipped.
-pub fn dot_at(dots: &[f32], at: usize) -> f32
-    ensures { λ r. ⌜ r ≡ getD (now (dots .entry)) at nan ⌝ }
+// A score at a place, or a NaN where there is none.
+pub fn score_at(scores: &[f32], at: usize) -> f32
+    ensures { λ r. ⌜ r ≡ getD (now (scores .entry)) at nan ⌝ }
 {
-    if at < dots.len() { dots[at] } else { 0.0 / 0.0 }
+    if at < scores.len() {
+        scores[at]
+    } else {
+        0.0 / 0.0
+    }
+}
+
+// The score of a block, or a NaN where there is none: with it no block is skipped.
+pub fn dot_at(dots: &[f32], block: BlockNumber) -> f32
+    ensures { λ r. ⌜ r ≡ getD (now (dots .entry)) (block .0) nan ⌝ }
+{
+    score_at(dots, block.0 as usize)
 }
 
 // The worst kept score, the last one; a NaN where nothing is kept.
@@ -32,22 +43,30 @@ pub fn worst_kept(length: u64, scores: &[f32]) -> f32
     if length == 0 {
         return 0.0 / 0.0;
     }
-    dot_at(scores, (length - 1) as usize)
+    score_at(scores, (length - 1) as usize)
 }
 
 // A number at a place, or 0 where there is none.
-pub fn offset_at(offsets: &[u64], at: usize) -> u64
-    ensures { λ r. ⌜ r ≡ getD (now (offsets .entry)) at 0 ⌝ }
+pub fn entry_at(entries: &[u64], at: usize) -> u64
+    ensures { λ r. ⌜ r ≡ getD (now (entries .entry)) at 0 ⌝ }
 {
-    if at < offsets.len() { offsets[at] } else { 0 }
+    if at < entries.len() { entries[at] } else { 0 }
+}
+
+// A block starts at its own offset, and at 0 where there is none.
+pub fn start_at(offsets: &[u64], block: BlockNumber) -> u64
+    ensures { λ r. ⌜ r ≡ getD (now (offsets .entry)) (block .0) 0 ⌝ }
+{
+    entry_at(offsets, block.0 as usize)
 }
 
 // The end of a block is the offset after its own; the last number of all has none after it.
-pub fn end_at(offsets: &[u64], at: usize) -> u64
-    ensures { λ r. ⌜ r ≡ getD (now (offsets .entry)) (at + 1) 0 ⌝ }
+pub fn end_at(offsets: &[u64], block: BlockNumber) -> u64
+    ensures { λ r. ⌜ r ≡ getD (now (offsets .entry)) (block .0 + 1) 0 ⌝ }
 {
+    let at = block.0 as usize;
     if at < offsets.len() {
-        offset_at(offsets, at + 1)
+        entry_at(offsets, at + 1)
     } else {
         0
     }
@@ -68,11 +87,10 @@ pub fn number_at(order: &[u64], turn: u64) -> BlockNumber
 pub fn block_at(offsets: &[u64], dots: &[f32], order: &[u64], turn: u64) -> Block
     ensures { λ r. ⌜ r ≡ blockAt (now (offsets .entry)) (now (dots .entry)) (getD (now (order .entry)) turn turn) ⌝ }
 {
-    let number = number_at(order, turn);
-    let at = number.0 as usize;
-    let score = dot_at(dots, at);
-    let start = offset_at(offsets, at);
-    let end = end_at(offsets, at);
+    let block = number_at(order, turn);
+    let score = dot_at(dots, block);
+    let start = start_at(offsets, block);
+    let end = end_at(offsets, block);
     Block {
         score: score,
         start: start,

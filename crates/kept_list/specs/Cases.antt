@@ -3,12 +3,12 @@ use Prim.Native.Nat.{ℕ}
 use mathlib.Core.Path.{_≡_, refl}
 use mathlib.Core.Bool.{true, false}
 use mathlib.Core.List.{[], _∷_}
-use lib.Dec.{ltb}
 use lib.IntN.{pos}
 use lib.Ieee.{Float, fin, inf, nan}
-use Rattle.refusal.specs.declared.Refusal.the-variants.{NothingToKeep, WrongKeptList, BufferTooShort}
-use Rattle.refusal.specs.declared.Verdict.the-variants.{Accepted, Refused}
+use Rattle.refusal.specs.declared.Verdict.the-variants.{Accepted}
+use Rattle.refusal.specs.Refusals.{verdictNumber}
 use Rattle.float32.specs.Key.{keyOf}
+use Rattle.kept_list.specs.declared.Scored.{Scored}
 use Rattle.kept_list.specs.Entry.{scored, better}
 use Rattle.kept_list.specs.Lent.{Lent, lent, settled}
 use Rattle.kept_list.specs.Push.{wellKept, verdictOf, left, pushed}
@@ -29,16 +29,15 @@ abbrev +zero : Float
 abbrev -zero : Float
 -zero = fin true 0 (pos 0)
 
--- k = 2, pushes 5 at start 10, 3 at 0, 3 at 20, 4 at 30 keep 5 and 4; however starts are packed, if 20 does not come before 0
-pub record Page (at : ℕ → ℕ) : Type 0 where
-  pub first : pushed 2 (scored (at 10) five) (lent 0 (7 ∷ 8 ∷ 9 ∷ []) (nan ∷ nan ∷ four ∷ [])) ≡ left Accepted (lent 1 (at 10 ∷ 8 ∷ 9 ∷ []) (five ∷ nan ∷ four ∷ []))
-  pub second : pushed 2 (scored (at 0) three) (lent 1 (at 10 ∷ 8 ∷ 9 ∷ []) (five ∷ nan ∷ four ∷ [])) ≡ left Accepted (lent 2 (at 10 ∷ at 0 ∷ 9 ∷ []) (five ∷ three ∷ four ∷ []))
-  pub third : pushed 2 (scored (at 20) three) (lent 2 (at 10 ∷ at 0 ∷ 9 ∷ []) (five ∷ three ∷ four ∷ [])) ≡ left Accepted (lent 2 (at 10 ∷ at 0 ∷ 9 ∷ []) (five ∷ three ∷ four ∷ []))
-  pub fourth : pushed 2 (scored (at 30) four) (lent 2 (at 10 ∷ at 0 ∷ 9 ∷ []) (five ∷ three ∷ four ∷ [])) ≡ left Accepted (lent 2 (at 10 ∷ at 30 ∷ 9 ∷ []) (five ∷ four ∷ four ∷ []))
+-- a full list: an equal score with a smaller packed number replaces the worst entry, one with a greater number does not; what lies past
+-- the entries stays. Document 01's page on pushes stands in worked_cases/Pages
+pub record Ties : Type 0 where
+  pub smaller-packed : pushed 1 (scored 3 four) (lent 1 (5 ∷ 9 ∷ []) (four ∷ nan ∷ [])) ≡ left Accepted (lent 1 (3 ∷ 9 ∷ []) (four ∷ nan ∷ []))
+  pub greater-packed : pushed 1 (scored 7 four) (lent 1 (5 ∷ 9 ∷ []) (four ∷ nan ∷ [])) ≡ left Accepted (lent 1 (5 ∷ 9 ∷ []) (four ∷ nan ∷ []))
 
-pub page : (at : ℕ → ℕ) → ltb (at 20) (at 0) ≡ false → Page at
+pub ties : Ties
 unfolding keyOf better settled wellKept verdictOf pushed
-page at h = record { first = refl; second = refl; third = rw h; fourth = refl }
+ties = record { smaller-packed = refl; greater-packed = refl }
 
 -- ---- what is let in, and what is refused
 abbrev empty : Lent
@@ -47,24 +46,28 @@ empty = lent 0 (0 ∷ []) (+zero ∷ [])
 abbrev pair : Float → Float → Lent
 pair x y = lent 2 (1 ∷ 2 ∷ []) (x ∷ y ∷ [])
 
+-- the number that such a push answers
+abbrev answer : ℕ → Scored → Lent → ℕ
+answer k e l = verdictNumber (verdictOf k e l)
+
 pub record Verdicts : Type 0 where
   -- 11 comes before 12, and 12 before 4
-  pub no-k : verdictOf 0 (scored 1 nan) empty ≡ Refused NothingToKeep
-  pub nan-pushed : verdictOf 3 (scored 1 nan) (pair five four) ≡ Refused WrongKeptList
-  pub nan-kept : verdictOf 3 (scored 1 four) (pair nan four) ≡ Refused WrongKeptList
-  pub more-than-k : verdictOf 1 (scored 1 four) (pair five four) ≡ Refused WrongKeptList
-  pub more-than-held : verdictOf 3 (scored 1 four) (lent 2 (1 ∷ 2 ∷ []) (five ∷ [])) ≡ Refused WrongKeptList
-  pub out-of-order : verdictOf 2 (scored 1 four) (pair three four) ≡ Refused WrongKeptList
+  pub no-k : answer 0 (scored 1 nan) empty ≡ 11
+  pub nan-pushed : answer 3 (scored 1 nan) (pair five four) ≡ 12
+  pub nan-kept : answer 3 (scored 1 four) (pair nan four) ≡ 12
+  pub more-than-k : answer 1 (scored 1 four) (pair five four) ≡ 12
+  pub more-than-held : answer 3 (scored 1 four) (lent 2 (1 ∷ 2 ∷ []) (five ∷ [])) ≡ 12
+  pub out-of-order : answer 2 (scored 1 four) (pair three four) ≡ 12
   -- below k one more place is needed, at k none
-  pub no-place : verdictOf 3 (scored 1 four) (pair five four) ≡ Refused BufferTooShort
-  pub at-k : verdictOf 2 (scored 1 four) (pair five four) ≡ Accepted
+  pub no-place : answer 3 (scored 1 four) (pair five four) ≡ 4
+  pub at-k : answer 2 (scored 1 four) (pair five four) ≡ 0
   -- -0 stands below +0
-  pub zeros-rise : verdictOf 2 (scored 1 four) (pair -zero +zero) ≡ Refused WrongKeptList
-  pub zeros-fall : verdictOf 2 (scored 1 four) (pair +zero -zero) ≡ Accepted
+  pub zeros-rise : answer 2 (scored 1 four) (pair -zero +zero) ≡ 12
+  pub zeros-fall : answer 2 (scored 1 four) (pair +zero -zero) ≡ 0
   -- equal entries are in order, with the same packed number or a greater one
-  pub equal : verdictOf 2 (scored 1 four) (lent 2 (1 ∷ 1 ∷ []) (four ∷ four ∷ [])) ≡ Accepted
-  pub packed-falls : verdictOf 2 (scored 1 four) (lent 2 (2 ∷ 1 ∷ []) (four ∷ four ∷ [])) ≡ Refused WrongKeptList
-  pub infinite : verdictOf 2 (scored 1 (inf false)) (pair (inf false) (inf true)) ≡ Accepted
+  pub equal : answer 2 (scored 1 four) (lent 2 (1 ∷ 1 ∷ []) (four ∷ four ∷ [])) ≡ 0
+  pub packed-falls : answer 2 (scored 1 four) (lent 2 (2 ∷ 1 ∷ []) (four ∷ four ∷ [])) ≡ 12
+  pub infinite : answer 2 (scored 1 (inf false)) (pair (inf false) (inf true)) ≡ 0
 
 pub verdicts : Verdicts
 unfolding keyOf better wellKept verdictOf

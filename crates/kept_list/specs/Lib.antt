@@ -13,5 +13,6 @@ pub mod Fours
 pub mod Push
 pub mod WellKept
 pub mod Told
+pub mod Worst
 pub mod Promises
 pub mod Cases

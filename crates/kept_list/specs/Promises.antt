@@ -1,17 +1,18 @@
--- What the kept list promises, over the definitions alone. Assumes nothing.
+-- What the kept list promises, over the definitions alone; a push answers in document 01's numbers. Assumes nothing.
 use Prim.Native.Nat.{ℕ, suc, _≤_, _<_, min}
 use native.Mathlib.Omega.{arith}
 use mathlib.Core.Path.{_≡_, refl, sym, ap, _∙_}
-use mathlib.Core.Bool.{Bool, true, false, not, _&&_, _||_, cond, true≢false}
+use mathlib.Core.Bool.{Bool, true, false, not, _&&_, _||_, cond}
 use mathlib.Core.List.{List, [], _∷_, _++_, map, List·Memᴰ}
 use lib.ListN.{length, take, drop, length-append, length-map}
 use lib.Seq.{drop-at}
-use lib.Dec.{leb, ltb}
-use borrow.Author.Tests.{leb-true}
-use Rattle.refusal.specs.declared.Refusal.{Refusal}
+use lib.Dec.{leb, ltb, eqb}
+use borrow.Author.Tests.{leb-true, eq-eqb, ne-eqb, not-false}
+use Rattle.refusal.specs.declared.Refusal.the-variants.{NothingToKeep, WrongKeptList, BufferTooShort}
 use Rattle.refusal.specs.declared.Verdict.{Verdict}
 use Rattle.refusal.specs.declared.Verdict.the-variants.{Accepted, Refused}
-use Rattle.refusal.specs.First.{faultless}
+use Rattle.refusal.specs.Refusals.{verdictNumber}
+use Rattle.refusal.specs.First.{_gives_, firstOf, faultless}
 use Rattle.lists.specs.Lists.{every, those, EachOf, sortedBy}
 use Rattle.lists.specs.Laws.{both}
 use Rattle.float32.specs.Order.{atMost}
@@ -28,7 +29,7 @@ use Rattle.kept_list.specs.Told.{Fit, numbers-kept, out-of-best}
 use Rattle.kept_list.specs.Lent.{Lent, packedOf, scoreOf, entries, written, places, after, settled}
 use Rattle.kept_list.specs.Laid.{RoomFor, entries-written, length-beside, settled-in, settleAll, settle-all}
 use Rattle.kept_list.specs.WellKept.{WellKept, well-kept, is-well-kept}
-use Rattle.kept_list.specs.Push.{isNumber, sound, wellKept, tests, verdictOf, left, pushed}
+use Rattle.kept_list.specs.Push.{isNumber, sound, wellKept, tests, verdictOf, left, ifAccepted, pushed}
 
 -- ---- the order: greater score first by total order; equal scores: smaller packed number first
 pub order-is : (e f : Scored) → Fit e → Fit f → better e f ≡ (not (atMost (e .score) (f .score)) || (sameScore (e .score) (f .score) && ltb (e .packed) (f .packed)))
@@ -40,6 +41,40 @@ order-holds = better-order
 
 pub order-tells : (e f : Scored) → Fit e → Fit f → level better e f ≡ true → e ≡ f
 order-tells = level-same
+
+-- ---- what a push answers: the first of 11, 12 and 4 that finds a fault, and else 0
+abbrev pub Answers : ℕ → Scored → Lent → ℕ → Type 0
+Answers k e l n = verdictNumber (pushed k e l .verdict) ≡ n
+
+module _ (k : ℕ) (e : Scored) (l : Lent) where
+  pub refuses-k : k ≡ 0 → Answers k e l 11
+  unfolding pushed verdictOf
+  refuses-k h = rw (eq-eqb k 0 h)
+
+  module _ (some : k ≡ 0 → ⊥) where
+    pub refuses-list : wellKept k l && isNumber e ≡ false → Answers k e l 12
+    unfolding pushed verdictOf
+    refuses-list h = rw (ne-eqb k 0 some, h)
+
+    module _ (kept : wellKept k l && isNumber e ≡ true) where
+      pub refuses-buffer : places (after k l) l ≡ false → Answers k e l 4
+      unfolding pushed verdictOf
+      refuses-buffer h = rw (ne-eqb k 0 some, kept, h)
+
+      pub accepts : places (after k l) l ≡ true → Answers k e l 0
+      unfolding pushed verdictOf
+      accepts h = rw (ne-eqb k 0 some, kept, h)
+
+  -- none of the refusals has the number 0
+  pub zero-accepts : Answers k e l 0 → pushed k e l .verdict ≡ Accepted
+  unfolding pushed verdictOf
+  zero-accepts h = go (eqb k 0) (not (wellKept k l && isNumber e)) (not (places (after k l) l)) h
+    where
+      go : (a b c : Bool) → let v = firstOf ((a gives NothingToKeep) ∷ (b gives WrongKeptList) ∷ (c gives BufferTooShort) ∷ []) in verdictNumber v ≡ 0 → v ≡ Accepted
+      go true b c h = let z : ⊥ = omega (arith, h) in absurd z
+      go false true c h = let z : ⊥ = omega (arith, h) in absurd z
+      go false false true h = let z : ⊥ = omega (arith, h) in absurd z
+      go false false false h = refl
 
 -- ---- 1: a push onto a kept list in order without a NaN
 -- what is kept: the entries not worse than the new one, it, and the worse ones; of these the first k. They are in order
@@ -90,16 +125,13 @@ module _ (k : ℕ) (e : Scored) (l : Lent) where
         go true = is-well-kept k (written m l) laid
         go false = is-well-kept k l w
 
-  pub accepted-push : pushed k e l .verdict ≡ Accepted → Kept k e l (pushed k e l .list)
+  pub accepted-push : Answers k e l 0 → Kept k e l (pushed k e l .list)
   unfolding pushed verdictOf
   accepted-push h =
-      let f = faultless (tests k e l) h in
-      let w = both (wellKept k l) (isNumber e) (not-no (wellKept k l && isNumber e) (f .1 .0)) in
-      rw h (settles (well-kept k l (w .0)) (w .1) (not-no (places (after k l) l) (f .1 .1 .0)))
-    where
-      not-no : (b : Bool) → not b ≡ false → b ≡ true
-      not-no true q = refl
-      not-no false q = absurd (true≢false q)
+      let v = zero-accepts k e l h in
+      let f = faultless (tests k e l) v in
+      let w = both (wellKept k l) (isNumber e) (not-false _ (f .1 .0)) in
+      rw v (settles (well-kept k l (w .0)) (w .1) (not-false _ (f .1 .1 .0)))
 
 -- below k a push adds; at k it replaces the worst entry if the new one is better, and else changes nothing
 pub record Cases (k : ℕ) (e : Scored) : Type 0 where
@@ -140,10 +172,14 @@ worse-than-k k es ps h n fit d m out = rw (k-best better better-order k es ps h 
 pub not-better : (k : ℕ) (e worst : Scored) (es : List Scored) → length (es ++ (worst ∷ [])) ≡ k → keep better k e (es ++ (worst ∷ [])) ≡ es ++ (worst ∷ []) → better e worst ≡ false
 not-better k e worst es = not-taken better better-order k e worst es
 
--- ---- 4: a refused push
-pub refused-push : (k : ℕ) (e : Scored) (l : Lent) (r : Refusal) → pushed k e l .verdict ≡ Refused r → pushed k e l .list ≡ l
+-- ---- 4: a push that answers another number than 0
+pub refused-push : (k : ℕ) (e : Scored) (l : Lent) (n : ℕ) → Answers k e l n → 0 < n → pushed k e l .list ≡ l
 unfolding pushed
-refused-push k e l r h = rw h
+refused-push k e l n a h = go (verdictOf k e l) (rw a h)
+  where
+    go : (v : Verdict) → 0 < verdictNumber v → ifAccepted v (settled k e l) l ≡ l
+    go Accepted z = let w : ⊥ = omega (arith, z) in absurd w
+    go (Refused r) z = refl
 
 -- ---- 5: what the contracts allow is one result
 pub one-settled : (k : ℕ) (e : Scored) (l : Lent) (a b : Lent) → a ≡ settled k e l → b ≡ settled k e l → a ≡ b

@@ -38,7 +38,7 @@ pub numbers-kept : (k : ℕ) (e : Scored) (l : List Scored) → isNumber e ≡ t
 numbers-kept k e l n h = every-take isNumber k (insertAfter better e l) (every-insert isNumber e l n h)
 
 -- ---- who is not among the k best is worse than each of them
-each-take : (P : Scored → Type 0) (k : ℕ) (l : List Scored) → EachOf P l → EachOf P (take k l)
+pub each-take : {A : Type 0} (P : A → Type 0) (k : ℕ) (l : List A) → EachOf P l → EachOf P (take k l)
 each-take P zero l h = tt
 each-take P (suc k) [] h = tt
 each-take P (suc k) (a ∷ l) h = (h .0, each-take P k l (h .1))

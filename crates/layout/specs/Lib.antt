@@ -8,3 +8,5 @@ pub mod Guards
 pub mod Laying
 pub mod Written
 pub mod AnyOrder
+pub mod ReadBack
+pub mod Near

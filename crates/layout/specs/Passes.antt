@@ -13,6 +13,7 @@ use Rattle.lists.specs.Groups.{RisesFrom, rising-rises, those-append, none-with
 use Rattle.lists.specs.Sorted.{each-sortedBy}
 use Rattle.lists.specs.Laws.{never-test}
 use Rattle.documents.specs.Documents.{Term}
+use Rattle.blocking.specs.Limits.{listLimit, blockLimit}
 use Rattle.quantizing.specs.Quantizing.{least, stepFor, minimumAllowed, stepAllowed}
 use Rattle.quantizing.specs.Demand3.{F32s}
 use Rattle.quantizing.specs.Accepted.{Quantizable}
@@ -55,6 +56,35 @@ componentOf e = e .component
 
 abbrev summaryOf : Entry → ℕ
 summaryOf e = e .summary
+
+-- ---- what is laid down for entries is read back by the offsets of their groups
+pub groups-read : {A : Type 0} (f : Entry → A) (gs : List (List Entry)) → between (offsetsFrom 0 gs) (map f (joined gs)) ≡ map (map f) gs
+groups-read f gs =
+    ap (λ os. between os (map f (joined gs))) (sym (offsets-map f 0 gs))
+    ∙ ap (between (offsetsFrom 0 (map (map f) gs))) (sym (joined-map f gs))
+    ∙ between-offsets [] (map (map f) gs)
+
+-- ---- any layout: how many numbers its arrays have, and that its components rise
+module _ (ss : List (List Term)) where
+  pub start-count : length (layout ss .offsets) ≡ suc (length (layout ss .components))
+  unfolding layout
+  start-count = offsets-count 0 (gathered (entriesFrom 0 ss)) ∙ ap suc (length-map (keys componentOf (entriesFrom 0 ss)) (λ k. withKey componentOf k (entriesFrom 0 ss)))
+
+  pub code-count : length (layout ss .ids) ≡ length (layout ss .codes)
+  unfolding layout
+  code-count = length-map (joined (gathered (entriesFrom 0 ss))) summaryOf ∙ sym (length-map (joined (gathered (entriesFrom 0 ss))) (λ e. e .code))
+
+  pub minimum-count : length (layout ss .minimums) ≡ length ss
+  unfolding layout
+  minimum-count = length-map ss (λ s. least (values s))
+
+  pub step-count : length (layout ss .steps) ≡ length ss
+  unfolding layout
+  step-count = length-map ss (λ s. stepFor (values s))
+
+  pub components-rise : strictlyRise (layout ss .components) ≡ true
+  unfolding layout
+  components-rise = rises-test 0 (keys componentOf (entriesFrom 0 ss)) (rising-rises (map componentOf (entriesFrom 0 ss)))
 
 -- ---- ids are below the number of summaries
 entries-below : (n b : ℕ) (ss : List (List Term)) → b + length ss ≤ n → EachOf (λ e. e .summary < n) (entriesFrom b ss)
@@ -120,17 +150,13 @@ module _ (ss : List (List Term)) (all : EachOf Storable ss) where
   es = entriesFrom 0 ss
 
   lengths-hold : lengthsHold (layout ss) ≡ true
-  unfolding lengthsHold layout
+  unfolding lengthsHold
   lengths-hold =
       rw (
-        eq-eqb (length (offsetsFrom 0 (gathered es))) (suc (length (keys componentOf es))) (offsets-count 0 (gathered es) ∙ ap suc (length-map (keys componentOf es) (λ k. withKey componentOf k es))),
-        eq-eqb (length (map summaryOf (joined (gathered es)))) (length (map (λ e. e .code) (joined (gathered es)))) (length-map (joined (gathered es)) summaryOf ∙ sym (length-map (joined (gathered es)) (λ e. e .code))),
-        eq-eqb (length (map (λ s. least (values s)) ss)) (length (map (λ s. stepFor (values s)) ss)) (length-map ss (λ s. least (values s)) ∙ sym (length-map ss (λ s. stepFor (values s)))),
+        eq-eqb (length (layout ss .offsets)) (suc (length (layout ss .components))) (start-count ss),
+        eq-eqb (length (layout ss .ids)) (length (layout ss .codes)) (code-count ss),
+        eq-eqb (length (layout ss .minimums)) (length (layout ss .steps)) (minimum-count ss ∙ sym (step-count ss)),
       )
-
-  components-hold : strictlyRise (layout ss .components) ≡ true
-  unfolding layout
-  components-hold = rises-test 0 (keys componentOf es) (rising-rises (map componentOf es))
 
   offsets-hold : offsetsHold (layout ss .offsets) (length (layout ss .ids)) ≡ true
   unfolding offsetsHold layout
@@ -155,16 +181,10 @@ module _ (ss : List (List Term)) (all : EachOf Storable ss) where
       tests [] e = tt
       tests (x ∷ l) e = (lt-ltb (x .summary) (length ss) (e .0), tests l (e .1))
 
-  read : between (offsetsFrom 0 (gathered es)) (map summaryOf (joined (gathered es))) ≡ map (map summaryOf) (gathered es)
-  read =
-      ap (λ os. between os (map summaryOf (joined (gathered es)))) (sym (offsets-map summaryOf 0 (gathered es)))
-      ∙ ap (between (offsetsFrom 0 (map (map summaryOf) (gathered es)))) (sym (joined-map summaryOf (gathered es)))
-      ∙ between-offsets [] (map (map summaryOf) (gathered es))
-
   ids-hold : idsHold (length ss) (layout ss .offsets) (layout ss .ids) ≡ true
   unfolding idsHold layout
   ids-hold =
-      rw (each-every (λ i. ltb i (length ss)) (map summaryOf (joined (gathered es))) below-each, read)
+      rw (each-every (λ i. ltb i (length ss)) (map summaryOf (joined (gathered es))) below-each, groups-read summaryOf (gathered es))
       (each-every strictlyRise (map (map summaryOf) (gathered es))
       (each-map (λ l. strictlyRise l ≡ true) (map summaryOf) (gathered es)
       (each-map (λ g. strictlyRise (map summaryOf g) ≡ true) (λ k. withKey componentOf k es) (keys componentOf es)
@@ -182,12 +202,8 @@ module _ (ss : List (List Term)) (all : EachOf Storable ss) where
       steps [] e = tt
       steps (s ∷ ss) e = (step-passes (values s) (e .0 .floats) (e .0 .list), steps ss (e .1))
 
-  minimum-count : length (layout ss .minimums) ≡ length ss
-  unfolding layout
-  minimum-count = length-map ss (λ s. least (values s))
-
   -- refusal 9 finds nothing, where the numbers of summaries and postings keep their limits and the block offsets hold
-  pub built-passes : (postings : ℕ) (blockOffsets : List ℕ) → length ss ≤ 65535 → postings ≤ 16777216 → blocksHold postings (length ss) blockOffsets ≡ true → wellFormed postings blockOffsets (layout ss) ≡ true
+  pub built-passes : (postings : ℕ) (blockOffsets : List ℕ) → length ss ≤ blockLimit → postings ≤ listLimit → blocksHold postings (length ss) blockOffsets ≡ true → wellFormed postings blockOffsets (layout ss) ≡ true
   unfolding wellFormed
   built-passes postings blockOffsets few short blocks =
-      rw (minimum-count, le-leb (length ss) 65535 few, le-leb postings 16777216 short, blocks, lengths-hold, components-hold, offsets-hold, ids-hold) bounds-hold
+      rw (minimum-count ss, le-leb (length ss) blockLimit few, le-leb postings listLimit short, blocks, lengths-hold, components-rise ss, offsets-hold, ids-hold) bounds-hold

@@ -21,6 +21,7 @@ use Rattle.configuration.specs.declared.ClusteringAlgorithm.{ClusteringAlgorith
 use Rattle.configuration.specs.declared.SummarizationStrategy.the-variants as summarization
 use Rattle.lists.specs.Lists.{every, joined}
 use Rattle.lists.specs.Laws.{both, or-left, every-append as every-both}
+use Rattle.blocking.specs.Limits.{centroidLimit}
 use Rattle.documents.specs.Documents.{Documents, terms}
 use Rattle.documents.specs.Checks.{termsHoldBelow, documentsHold}
 use Rattle.centroid_index.specs.Index.{entry, entriesFrom, entries}
@@ -153,7 +154,7 @@ module _ (dimension : ℕ) (k : BlockingStrategy) (d : Documents) (ids centroids
             terms-hold : not (documentsHold dimension d ids && documentsHold dimension d centroids) ≡ false
             terms-hold = ap not (sym (every-both (λ i. termsHoldBelow dimension (terms d i)) ids centroids) ∙ ap (λ l. every (λ i. termsHoldBelow dimension (terms d i)) (ids ++ l)) (sym used) ∙ not-false _ (faults .0 .1 .1 .0))
 
-            right : (length ids ≡ 0 → ⊥) → (0 < length centroids) × (length centroids ≤ 65535) × (length centroids ≤ length ids)
+            right : (length ids ≡ 0 → ⊥) → (0 < length centroids) × (length centroids ≤ centroidLimit) × (length centroids ≤ length ids)
             right some = right-count (input dimension k (summarization.FixedSize 0) d ids centroids) fraction (length ids) (length centroids) (subst (λ k. Faultless (blockingFaults k (length ids) (length centroids))) q (faults .0 .1 .1 .1 .1 .1) .0) some
 
             centroid-there : (length ids ≡ 0 → ⊥) → (ltb 0 (length ids) && eqb (length centroids) 0) ≡ false

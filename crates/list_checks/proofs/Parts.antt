@@ -1,6 +1,6 @@
 -- What the checks of a layout's parts come to. Assumes nothing.
 use mathlib.Core.Path.{_≡_, refl, ap}
-use mathlib.Core.Bool.{Bool, true, false, _&&_}
+use mathlib.Core.Bool.{Bool, true, false, not, _&&_}
 use mathlib.Core.List.{List, [], _∷_}
 use Prim.Native.Nat.{ℕ, suc, _+_, _-_, _<_}
 use native.Mathlib.Omega.{arith}
@@ -11,6 +11,8 @@ use lib.Ieee.{Float}
 use borrow.Author.Tests.{eq-eqb, ne-eqb}
 use Rattle.lists.specs.Lists.{every, firstOr, lastOr, between, neverFalls, strictlyRise}
 use Rattle.lists.specs.Laws.{both}
+use Rattle.blocking.specs.Limits.{listLimit, blockLimit}
+use Rattle.blocking.specs.LimitLaws.{within-limit}
 use Rattle.documents.specs.Laws.{last-at}
 use Rattle.quantizing.specs.Quantizing.{minimumAllowed, stepAllowed}
 use Rattle.quantized_summary.specs.Layout.{arrays}
@@ -67,9 +69,9 @@ counted summaries os ids rest = go (offsetsHold os (length ids)) refl
     go false e = refl
 
 module _ (postings : ℕ) (bs cs os is ks : List ℕ) (ms ss : List Float) where
-  pub all-hold : (blocks risen offset id low step : Bool) → blocks ≡ blocksHold postings (length ms) bs → risen ≡ strictlyRise cs → offset ≡ offsetsHold os (length is) → id ≡ idsCounted (length ms) os is
+  pub all-hold : (many long blocks risen offset id low step : Bool) → many ≡ ltb blockLimit (length ms) → long ≡ ltb listLimit postings → blocks ≡ blocksHold postings (length ms) bs → risen ≡ strictlyRise cs → offset ≡ offsetsHold os (length is) → id ≡ idsCounted (length ms) os is
       → low ≡ every minimumAllowed ms → step ≡ every stepAllowed ss
-      → ((leb (length ms) 65535 && leb postings 16777216) && (blocks && ((eqb (length os) (length cs + 1) && (eqb (length is) (length ks) && eqb (length ms) (length ss))) && (risen && (offset && (id && (low && step)))))))
+      → ((not many && not long) && (blocks && ((eqb (length os) (length cs + 1) && (eqb (length is) (length ks) && eqb (length ms) (length ss))) && (risen && (offset && (id && (low && step)))))))
       ≡ wellFormed postings bs (arrays cs os is ks ms ss)
   unfolding wellFormed lengthsHold boundsHold
-  all-hold blocks risen offset id low step a b c d e f = rw (a, b, c, d, e, f, add-one (length cs), counted (length ms) os is (every minimumAllowed ms && every stepAllowed ss))
+  all-hold many long blocks risen offset id low step m l a b c d e f = rw (m, l, within-limit blockLimit (length ms), within-limit listLimit postings, a, b, c, d, e, f, add-one (length cs), counted (length ms) os is (every minimumAllowed ms && every stepAllowed ss))

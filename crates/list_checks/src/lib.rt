@@ -1,4 +1,6 @@
 // Whether a list may be searched: the check of refusal 9. Nothing is assumed of the slices.
+use blocking::limits::list_too_long;
+use blocking::limits::too_many_blocks;
 ghost use mathlib.Core.Path.{_≡_};
 ghost use Prim.Native.Nat.{_≤_};
 ghost use lib.Dec.{ltb};
@@ -49,11 +51,14 @@ fn all_under(ids: &[u16], bound: u16) -> bool
     ok
 }
 
+// The greatest id that 16 bits hold.
+const GREATEST_ID: u64 = 0xffff;
+
 // Whether each summary id is below the number of summaries.
 fn all_below(ids: &[u16], summaries: u64) -> bool
     ensures { λ r. ⌜ r ≡ every (λ i. ltb i summaries) (now (ids .entry)) ⌝ }
 {
-    if 65535 < summaries {
+    if GREATEST_ID < summaries {
         return true;
     }
     all_under(ids, summaries as u16)
@@ -185,12 +190,13 @@ pub fn is_well_formed(
     let entries = ids.len() as u64;
     let even = (offsets.len() == components.len() + 1)
         & ((ids.len() == codes.len()) & (minimums.len() == steps.len()));
-    let small = (summaries <= 65535) & (postings <= 16777216);
+    let many = too_many_blocks(summaries);
+    let long = list_too_long(postings);
     let blocks = blocks_hold(postings, summaries, block_offsets);
     let risen = strictly_rise(components);
     let offset = offsets_hold(offsets, entries);
     let id = ids_hold(offsets, ids, summaries);
     let low = minimums_hold(minimums);
     let step = steps_hold(steps);
-    small & (blocks & (even & (risen & (offset & (id & (low & step))))))
+    (!many & !long) & (blocks & (even & (risen & (offset & (id & (low & step))))))
 }

@@ -14,6 +14,7 @@ use Rattle.refusal.specs.First.{Faultless, faultless, accepted-by}
 use Rattle.configuration.specs.declared.SummarizationStrategy.{SummarizationStrategy}
 use Rattle.lists.specs.Lists.{between}
 use Rattle.lists.specs.Laws.{both}
+use Rattle.blocking.specs.Limits.{blockLimit, dimensionLimit}
 use Rattle.documents.specs.Documents.{Documents}
 use Rattle.layout.specs.Layouts.{entriesFrom, layout}
 use Rattle.layout.specs.Placing.{componentOf, movedBy}
@@ -53,11 +54,11 @@ module _ (dimension : ℕ) (s : SummarizationStrategy) (d : Documents) (order bl
   unfolding laidVerdict
   faults = faultless (laidTests dimension s d order blocks (counting keys places maxima counts (o .minimums) (o .steps)) (outputLengths o)) accepted
 
-  small : dimension ≤ 1048575
-  small = ltb-false 1048575 dimension (or-right (eqb dimension 0) (ltb 1048575 dimension) (faults .0))
+  small : dimension ≤ dimensionLimit
+  small = ltb-false dimensionLimit dimension (or-right (eqb dimension 0) (ltb dimensionLimit dimension) (faults .0))
 
-  few : length bs ≤ 65535
-  few = ltb-false 65535 (length bs) (faults .1 .0)
+  few : length bs ≤ blockLimit
+  few = ltb-false blockLimit (length bs) (faults .1 .0)
 
   hold : blocksHold dimension d bs ≡ true
   hold = not-false (blocksHold dimension d bs) (faults .1 .1 .0)

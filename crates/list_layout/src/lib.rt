@@ -11,9 +11,11 @@ ghost use Rattle.list_layout.specs.Laid.{builtFrom, laidVerdict, left, l
 
 // Writes the result of a build: `order` has the list's documents in block order, and `blocks` where each block starts and where the
 // last one ends. Each output buffer has its part of the result in front, and past it nothing changes; a document whose range cannot be
-// packed counts as 0. Refuses a dimension outside its limits or more than 65,535 blocks (8), documents whose terms don't hold (14), work
+// packed counts as 0. Refuses a dimension outside its limits or more blocks than there may be (8), documents whose terms don't hold (14), work
 // space of fewer places than the dimension (4), a block whose summary is empty (7), and output too short for the result (4): all output
-// is zero then. The work space is zero either way. It takes time in proportion to twice the terms of the blocks' documents.
+// is zero then. The work space is zero either way. Each of two passes over the blocks takes time in proportion to the terms of their
+// documents, to n log n for the n components of each block, which are sorted, and to the documents, the blocks, the dimension and the
+// work space, which is cleared. A refusal takes no more than the first pass, the terms once more, and the length of the output.
 pub fn write(
     dimension: u64,
     strategy: SummarizationStrategy,

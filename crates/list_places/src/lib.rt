@@ -52,7 +52,8 @@ fn write_offsets(blocks: &[u64], block_offsets: &mut [u64])
 
 // Lays out the components whose counts stand in front of `counts`, places the entries of the blocks' summaries, and writes the postings
 // and the block offsets. What finds no place is left out, and entries that `block_entries::fill` refuses leave zeros. The work space
-// `keys`, `places`, `maxima`, `counts` is zero then. It takes time in proportion to the terms of the blocks' documents.
+// `keys`, `places`, `maxima`, `counts` is zero then. It takes time in proportion to the terms of the blocks' documents, to n log n for
+// the n components of each block, which are sorted, and to the documents, the blocks, the dimension and the work space, which is cleared.
 fn place(
     dimension: u64,
     strategy: SummarizationStrategy,
@@ -100,7 +101,9 @@ fn place(
 
 // Ends a build whose entries were counted: where the first pass answered that there is room, the second writes the result, each part in
 // front of its buffer, and what finds no place is left out; where it refused, all output is cleared. The answer is the first pass's. The
-// work space is zero either way. It takes time in proportion to the terms of the blocks' documents.
+// work space is zero either way. The second pass takes time in proportion to the terms of the blocks' documents, to n log n for the n
+// components of each block, which are sorted, and to the documents, the blocks, the dimension and the work space, which is cleared. After
+// a refusal it is the lengths of the output and of the work space.
 pub fn settle(
     answer: BuildAnswer,
     dimension: u64,

@@ -17,6 +17,7 @@ use Rattle.refusal.specs.First.{_gives_, firstOf, Faultless, faultless, first-a
 use Rattle.configuration.specs.declared.SummarizationStrategy.{SummarizationStrategy}
 use Rattle.lists.specs.Lists.{between}
 use Rattle.lists.specs.Laws.{between-count}
+use Rattle.blocking.specs.Limits.{blockLimit, dimensionLimit}
 use Rattle.documents.specs.Documents.{Documents}
 use Rattle.layout.specs.Layouts.{entriesFrom}
 use Rattle.layout.specs.Placing.{componentOf}
@@ -47,13 +48,13 @@ module _ (dimension : ℕ) (s : SummarizationStrategy) (d : Documents) (order bl
     unfolding laidVerdict
     inside = ap (λ f. cond f (verdict.Refused OutsideLimits) (firstOf (countTests dimension s d (between blocks order) (cutTo dimension w) ++ ((not (outputSuffices (builtFrom s d order blocks) room) gives BufferTooShort) ∷ [])))) (sym e ∙ h)
 
-    small : dimension ≤ 1048575
-    small = at (eqb dimension 0) (ltb 1048575 dimension) refl (sym e ∙ h)
+    small : dimension ≤ dimensionLimit
+    small = at (eqb dimension 0) (ltb dimensionLimit dimension) refl (sym e ∙ h)
       where
-        at : (x y : Bool) → ltb 1048575 dimension ≡ y → (x || y) ≡ false → dimension ≤ 1048575
+        at : (x y : Bool) → ltb dimensionLimit dimension ≡ y → (x || y) ≡ false → dimension ≤ dimensionLimit
         at true y q f = absurd (true≢false f)
         at false true q f = absurd (true≢false f)
-        at false false q f = ltb-false 1048575 dimension q
+        at false false q f = ltb-false dimensionLimit dimension q
 
     module _ (n : ℕ) (q : n ≡ min dimension (length (w .counts))) (v : Verdict)
         (cv : v ≡ countVerdict dimension s d (between blocks order) (counting (w .keys) (w .places) (w .maxima) (take n (w .counts)) (w .minimums) (w .steps))) where
@@ -157,8 +158,8 @@ module _ (dimension : ℕ) (s : SummarizationStrategy) (d : Documents) (order bl
   hold : blocksHold dimension d bs ≡ true
   hold = not-false (blocksHold dimension d bs) (faults .1 .0)
 
-  few : length bs ≤ 65535
-  few = ltb-false 65535 (length bs) (faults .0)
+  few : length bs ≤ blockLimit
+  few = ltb-false blockLimit (length bs) (faults .0)
 
   tallied-are : x ≡ foldl counted (blank dimension) (map componentOf (entriesFrom 0 (topsOf s d bs)))
   tallied-are = counts-are ∙ ap (λ z. foldl counted (replicate z 0) (map componentOf (entriesFrom 0 (topsOf s d bs)))) cut-long

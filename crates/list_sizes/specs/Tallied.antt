@@ -1,11 +1,11 @@
 -- The kept terms of a list's blocks, counted: each component is below the dimension and comes once in a block at most, so that the counts
 -- are those of the layout. Assumes nothing.
-use Prim.Native.Nat.{ℕ, suc, _+_, _-_, _*_, _≤_, _<_}
+use Prim.Native.Nat.{ℕ, suc, _≤_, _<_}
 use native.Mathlib.Omega.{arith}
 use mathlib.Core.Path.{_≡_, refl, sym, ap, _∙_}
 use mathlib.Core.Bool.{Bool, true, false, _||_, cond, true≢false}
 use mathlib.Core.List.{List, [], _∷_, _++_, map, foldl}
-use lib.ListN.{length, getD, length-append, length-map, length-replicate}
+use lib.ListN.{length, length-append, length-map, length-replicate}
 use lib.Dec.{ltb, eqb}
 use lib.Ieee.{Float}
 use borrow.Author.Tests.{ltb-true, eqb-true}
@@ -13,6 +13,8 @@ use Rattle.configuration.specs.declared.SummarizationStrategy.{SummarizationStr
 use Rattle.lists.specs.Lists.{EachOf, every, joined, among, keys, withKey}
 use Rattle.lists.specs.Groups.{those-append, none-with, offsets-count}
 use Rattle.lists.specs.Laws.{and-right, every-each}
+use Rattle.blocking.specs.Limits.{blockLimit, dimensionLimit}
+use Rattle.blocking.specs.LimitLaws.{dimension-fits, entries-fit}
 use Rattle.documents.specs.Documents.{Term, Documents, terms}
 use Rattle.documents.specs.Checks.{termsHold, termsHoldBelow, documentsHold}
 use Rattle.block_maximum.specs.Maximum.{blockTerms, blockMaximum}
@@ -22,7 +24,7 @@ use Rattle.summaries.specs.Promises.{OfBlock, kept-of-block}
 use Rattle.quantizing.specs.Quantizing.{least, stepFor}
 use Rattle.layout.specs.Layouts.{values, Entry, entryOf, entriesOf, entriesFrom, gathered, layout}
 use Rattle.layout.specs.Placing.{componentOf, countOf}
-use Rattle.layout.specs.Counted.{presentFrom, total, Tally}
+use Rattle.layout.specs.Counted.{presentFrom, total, Tally, total-few}
 use Rattle.layout.specs.Gathered.{present-keys}
 use Rattle.layout.specs.Keys.{counted, onTo, counts-long}
 use Rattle.layout.specs.Guards.{blank, tally-of}
@@ -114,12 +116,7 @@ count-few c s d b (l ∷ bs) =
     omega arith
 
 -- ---- the counts
-total-few : (l : List ℕ) (m : ℕ) → ((i : ℕ) → i < length l → getD l i 0 ≤ m) → total l ≤ length l * m
-unfolding total
-total-few [] m h = omega arith
-total-few (x ∷ l) m h = let i = total-few l m (λ i k. h (suc i) (omega arith)) in let f = h 0 (omega arith) in omega arith
-
-module _ (n : ℕ) (s : SummarizationStrategy) (d : Documents) (bs : List (List ℕ)) (hold : blocksHold n d bs ≡ true) (few : length bs ≤ 65535) (small : n ≤ 1048575) where
+module _ (n : ℕ) (s : SummarizationStrategy) (d : Documents) (bs : List (List ℕ)) (hold : blocksHold n d bs ≡ true) (few : length bs ≤ blockLimit) (small : n ≤ dimensionLimit) where
   abbrev es : List Entry
   es = entriesFrom 0 (topsOf s d bs)
 
@@ -129,7 +126,7 @@ module _ (n : ℕ) (s : SummarizationStrategy) (d : Documents) (bs : List (List 
   pub below : EachOf (λ e. e .component < n) (entriesFrom 0 (topsOf s d bs))
   below = entries-below n d s 0 bs hold
 
-  pub rare : (c : ℕ) → countOf c (entriesFrom 0 (topsOf s d bs)) ≤ 65535
+  pub rare : (c : ℕ) → countOf c (entriesFrom 0 (topsOf s d bs)) ≤ blockLimit
   rare c = let f = count-few c s d 0 bs in omega arith
 
   pub tally : Tally (foldl counted (blank n) (map componentOf (entriesFrom 0 (topsOf s d bs)))) (entriesFrom 0 (topsOf s d bs))
@@ -139,16 +136,12 @@ module _ (n : ℕ) (s : SummarizationStrategy) (d : Documents) (bs : List (List 
   long = counts-long (map componentOf es) (blank n) ∙ length-replicate {A = ℕ} n 0
 
   pub narrow : length (foldl counted (blank n) (map componentOf (entriesFrom 0 (topsOf s d bs)))) ≤ 4294967296
-  narrow = let l = long in omega arith
+  narrow = let l = long in let s = dimension-fits n small in omega arith
 
   pub slight : total (foldl counted (blank n) (map componentOf (entriesFrom 0 (topsOf s d bs)))) < 18446744073709551616
   slight =
-      let t = total-few tallied 65535 (λ i k. let e = tally .each i k in let r = rare i in omega arith) in
-      let l = long in
-      bound (length tallied) n (total tallied) l small t
-    where
-      bound : (l m t : ℕ) → l ≡ m → m ≤ 1048575 → t ≤ l * 65535 → t < 18446744073709551616
-      bound l m t e k h = omega arith
+      let t = total-few tallied blockLimit (λ i k. let e = tally .each i k in let r = rare i in omega arith) in
+      entries-fit (length tallied) (total tallied) narrow t
 
   -- ---- the sizes of the layout
   pub component-count : length (presentFrom 0 (foldl counted (blank n) (map componentOf (entriesFrom 0 (topsOf s d bs))))) ≡ length (layout (topsOf s d bs) .components)

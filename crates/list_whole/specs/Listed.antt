@@ -1,18 +1,16 @@
 -- The documents of a list in block order are those listed; what holds of each listed one holds there too. Assumes nothing.
-use Prim.Native.Nat.{ℕ, _+_, _-_}
-use native.Mathlib.Omega.{arith}
+use Prim.Native.Nat.{ℕ}
 use mathlib.Core.Path.{_≡_, refl, sym, ap, _∙_, subst}
 use mathlib.Core.Bool.{Bool, true}
 use mathlib.Core.List.{List, [], _∷_, map, Permᴰ·symm}
 use lib.Dec.{leb, ltb}
-use borrow.Author.Tests.{ltb-true, leb-true, lt-leb, le-ltb}
-use Rattle.refusal.specs.declared.Verdict.the-variants as verdict
-use Rattle.refusal.specs.First.{firstOf, accepted-by}
+use borrow.Author.Tests.{ltb-true, leb-true}
 use Rattle.configuration.specs.declared.BlockingStrategy.{BlockingStrategy}
 use Rattle.configuration.specs.declared.BlockingStrategy.the-variants.{FixedSize, RandomKmeans}
 use Rattle.lists.specs.Lists.{EachOf, every, joined}
 use Rattle.lists.specs.Laws.{every-each}
 use Rattle.packing.specs.Packing as range
+use Rattle.packing.specs.Laws.{packs-length}
 use Rattle.summaries.specs.Each.{each-permuted}
 use Rattle.documents.specs.Documents.{Documents, start, size, packed}
 use Rattle.clusters.specs.Clusters.{clusters}
@@ -43,13 +41,7 @@ module _ (P : ℕ → Type 0) where
 
 -- ---- a document whose range can be packed
 posting-packed : (d : Documents) (i : ℕ) → ltb (start d i) range.startLimit ≡ true → leb (size d i) range.lengthLimit ≡ true → postingOf d i ≡ packed d i
-unfolding range.packed
-posting-packed d i a b = go (start d i) (size d i) a b
-  where
-    go : (s n : ℕ) → ltb s range.startLimit ≡ true → leb n range.lengthLimit ≡ true → packedNumber (range.packed s (s + n)) ≡ range.packOf s n
-    go s n a b =
-        ap (λ n. packedNumber (range.answered (firstOf (range.packingTests s n)) (range.packOf s n))) (let e : s + n - s ≡ n = omega arith in e)
-        ∙ ap (λ v. packedNumber (range.answered v (range.packOf s n))) (accepted-by (range.packingTests s n) (lt-leb range.startLimit s (ltb-true s range.startLimit a), (le-ltb range.lengthLimit n (leb-true n range.lengthLimit b), tt)))
+posting-packed d i a b = ap packedNumber (packs-length (start d i) (size d i) (ltb-true (start d i) range.startLimit a) (leb-true (size d i) range.lengthLimit b))
 
 pub postings-packed : (g : Input) → startsFit (g .documents) (g .ids) ≡ true → lengthsFit (g .documents) (g .ids) ≡ true → map (postingOf (g .documents)) (blocks g .documents) ≡ map (packed (g .documents)) (blocks g .documents)
 postings-packed g a b =

@@ -4,7 +4,7 @@ use native.Mathlib.Omega.{arith}
 use native.Mathlib.Decide.{decLe}
 use mathlib.Core.Path.{_≡_, refl, sym, ap, _∙_}
 use mathlib.Core.Logic.{_⊎_, inl, inr}
-use mathlib.Core.Bool.{Bool, true, false, _&&_, _||_, true≢false}
+use mathlib.Core.Bool.{Bool, true, false, _&&_, _||_, true≢false, or-assoc}
 use mathlib.Core.List.{List, [], _∷_, _++_, map, List·Permᴰ}
 use mir.Val.{boolByte}
 use lib.ListN.{length, getD, take, drop, length-take, length-drop}
@@ -124,6 +124,10 @@ among-permuted m List·Permᴰ.List·Permᴰ·nil = refl
 among-permuted m (List·Permᴰ.List·Permᴰ·cons e d) = λ i. eqb m (e i) || among-permuted m d i
 among-permuted m (List·Permᴰ.List·Permᴰ·swap {a = a} {b = b} {l = l} e f) = or-swap (eqb m a) (eqb m b) (among m l) ∙ (λ i. eqb m (f i) || (eqb m (e i) || among m l))
 among-permuted m (List·Permᴰ.List·Permᴰ·trans d e) = among-permuted m d ∙ among-permuted m e
+
+pub among-append : (m : ℕ) (a b : List ℕ) → among m (a ++ b) ≡ (among m a || among m b)
+among-append m [] b = refl
+among-append m (x ∷ a) b = ap (λ t. eqb m x || t) (among-append m a b) ∙ sym (or-assoc (eqb m x) (among m a) (among m b))
 
 pub among-take : (m n : ℕ) (l : List ℕ) → among m l ≡ false → among m (take n l) ≡ false
 among-take m zero l h = refl

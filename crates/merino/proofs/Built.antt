@@ -7,13 +7,13 @@ use Rattle.configuration.specs.declared.SummarizationStrategy.{SummarizationStr
 use Rattle.documents.specs.Documents.{Documents}
 use Rattle.building.specs.declared.BuildAnswer.{BuildAnswer}
 use Rattle.building.specs.Built.{input}
-use Rattle.building.specs.Building.{Lent, leaves, builds}
-use Rattle.build_numbers.specs.Shown.{BuiltNumbers, shownBuilt, seenBuilt}
-
-numbers-shown : (a : BuildAnswer) (m : Lent) {n p o c e s : ℕ} → BuiltNumbers a n p o c e s → shownBuilt n p o c e s m ≡ seenBuilt (leaves a m)
-numbers-shown a m h = simp (h .0, h .1, h .2, h .3, h .4, h .5)
+use Rattle.building.specs.Building.{Lent, InNumbers, numbers, inNumbers, leaves, builds}
+use Rattle.build_numbers.specs.Shown.{ShownBuilt, shownBuilt, seenBuilt}
 
 pub build-shows : (d : ℕ) (b b' : BlockingStrategy) (k k' : SummarizationStrategy) (ds : Documents) (ids cs : List ℕ) (l : Lent) (a : BuildAnswer) (m : Lent) {n p o c e s : ℕ}
-    → b ≡ b' → k ≡ k' → leaves a m ≡ builds (input d b k ds ids cs) l → BuiltNumbers a n p o c e s → shownBuilt n p o c e s m ≡ seenBuilt (builds (input d b' k' ds ids cs) l)
+    → b ≡ b' → k ≡ k' → leaves a m ≡ builds (input d b k ds ids cs) l → numbers n p o c e s ≡ inNumbers a → shownBuilt n p o c e s m ≡ seenBuilt (builds (input d b' k' ds ids cs) l)
 build-shows d b b' k k' ds ids cs l a m q r w h =
-    numbers-shown a m h ∙ ap seenBuilt w ∙ ap (λ z. seenBuilt (builds (input d z k ds ids cs) l)) q ∙ ap (λ z. seenBuilt (builds (input d b' z ds ids cs) l)) r
+    ap shown h ∙ ap seenBuilt w ∙ ap (λ z. seenBuilt (builds (input d z k ds ids cs) l)) q ∙ ap (λ z. seenBuilt (builds (input d b' z ds ids cs) l)) r
+  where
+    shown : InNumbers → ShownBuilt
+    shown z = record { answer = z; lent = m }

@@ -1,8 +1,8 @@
 -- What a push shows to C: one number, and the kept list as it then lies.
 use Prim.Native.Nat.{ℕ}
+use Rattle.refusal.specs.Refusals.{verdictNumber}
 use Rattle.kept_list.specs.Lent.{Lent}
 use Rattle.kept_list.specs.Push.{Left}
-use Rattle.search_numbers.specs.Numbers.{verdictNumber}
 
 pub record Crossed : Type 0 where
   pub number : ℕ

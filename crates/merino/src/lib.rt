@@ -27,17 +27,19 @@ pub extern "C" fn merino_push(
     ensures { λ r. ⌜ crossed r (lent (now (length .exit)) (now (packed .exit)) (now (scores .exit)))
         ≡ seenPushed (pushed k (scored «new_packed» «new_score») (lent (now (length .entry)) (now (packed .entry)) (now (scores .entry)))) ⌝ }
 {
-    search_numbers::number_of(pushing::push(
+    let verdict = pushing::push(
         k,
         length,
         packed,
         scores,
         Scored::new(new_packed, new_score),
-    ))
+    );
+    verdict.number()
 }
 
-// Searches a posting list: search::search where `by_score` is 0, and else search::sort_and_search. `position` is left with the posting
-// at which 13 or 14 stopped the search, `evaluated` and `skipped` with the counts of a search that was not stopped; else they are 0.
+// Searches a posting list: search::search where `by_score` is 0, search::sort_and_search where it is 1; any other number does as 1, and is
+// reserved. `position` is left with the posting at which 13 or 14 stopped the search, `evaluated` and `skipped` with the counts of a
+// search that was not stopped; else they are 0.
 #[no_mangle]
 pub extern "C" fn merino_search(
     by_score: u64,

@@ -1,5 +1,5 @@
 -- The laws of packed numbers, by which every other crate knows them. Assumes nothing.
-use Prim.Native.Nat.{ℕ, suc, _+_, _≤_, _<_, _^_}
+use Prim.Native.Nat.{ℕ, suc, _+_, _-_, _≤_, _<_, _^_}
 use mathlib.Core.Path.{_≡_, sym, ap, _∙_}
 use mathlib.Core.Bool.{Bool, _&&_, _||_}
 use mathlib.Core.Logic.{_⊎_, inl, inr}
@@ -7,7 +7,9 @@ use native.Mathlib.Decide.{decLe, ℕ-discrete}
 use native.Mathlib.Omega.{arith}
 use lib.Dec.{leb, ltb, eqb}
 use borrow.Author.Tests.{lt-ltb, le-ltb, le-leb, lt-leb, eq-eqb, ne-eqb}
-use Rattle.packing.specs.Packing.{startLimit, lengthLimit, packOf, startOf, lengthOf}
+use Rattle.refusal.specs.declared.Refusal.the-variants.{StartTooLarge, RangeTooLong}
+use Rattle.packing.specs.declared.PackingAnswer.the-variants.{Packed, Refused}
+use Rattle.packing.specs.Packing.{startLimit, lengthLimit, packOf, startOf, lengthOf, rangeLength, packed}
 
 -- ---- a packed number's parts
 pub start-of-pack : (start length : ℕ) → length ≤ lengthLimit → startOf (packOf start length) ≡ start
@@ -110,3 +112,23 @@ packed-strictly m n = go (starts m n)
     go (inl h) = simp (lt-ltb _ _ h, lt-ltb m n (smaller-start m n h))
     go (inr (inl e)) = simp (le-ltb (startOf m) (startOf n) (omega arith), eq-eqb _ _ e) (leb-same (suc m) n (suc (lengthOf m)) (lengthOf n) (λ h. shorter-back n m (sym e) h) (λ h. let l : lengthOf n ≤ lengthOf m = lengths-rise n m (sym e) (omega arith) in omega arith))
     go (inr (inr h)) = let l : n < m = smaller-start n m h in simp (le-ltb (startOf m) (startOf n) (omega arith), ne-eqb (startOf m) (startOf n) (λ e. omega arith), le-ltb m n (omega arith))
+
+-- ---- which of the three answers is given
+pub start-refused : (start end : ℕ) → startLimit ≤ start → packed start end ≡ Refused StartTooLarge
+unfolding packed
+start-refused start end h = simp (le-leb _ _ h)
+
+pub length-refused : (start end : ℕ) → start < startLimit → lengthLimit < rangeLength start end → packed start end ≡ Refused RangeTooLong
+unfolding packed
+length-refused start end h l = simp (lt-leb _ _ h, lt-ltb _ _ l)
+
+pub range-packed : (start end : ℕ) → start < startLimit → rangeLength start end ≤ lengthLimit → packed start end ≡ Packed (record { 0 = packOf start (rangeLength start end) })
+unfolding packed
+range-packed start end h l = simp (lt-leb _ _ h, le-ltb _ _ l)
+
+-- a range given by its start and its length
+pub packs-length : (start length : ℕ) → start < startLimit → length ≤ lengthLimit → packed start (start + length) ≡ Packed (record { 0 = packOf start length })
+packs-length start length h l = range-packed start (start + length) h (rw same l) ∙ rw same
+  where
+    same : start + length - start ≡ length
+    same = omega arith

@@ -3,7 +3,8 @@ use names::RangeStart;
 use refusal::Refusal;
 ghost use mathlib.Core.Path.{_≡_};
 ghost use Prim.Native.Nat.{_-_};
-ghost use Rattle.packing.specs.Packing.{packed, unpacked};
+ghost use lib.Dec.{leb, ltb};
+ghost use Rattle.packing.specs.Packing.{startLimit, lengthLimit, packed, unpacked};
 
 // A range as its start and its length in one number: packed numbers rise by start, then by length.
 pub struct PackedPosting(pub u64);
@@ -31,6 +32,20 @@ impl PackedPosting {
     // What one more in the start adds to the packed number.
     const START_WEIGHT: u64 = PackedPosting::LENGTH_LIMIT + 1;
 
+    // Whether a range with this start can be packed.
+    pub fn start_fits(start: RangeStart) -> bool
+        ensures { λ r. ⌜ r ≡ ltb (start .0) startLimit ⌝ }
+    {
+        start.0 < PackedPosting::START_LIMIT
+    }
+
+    // Whether a range of this length can be packed.
+    pub fn length_fits(length: u64) -> bool
+        ensures { λ r. ⌜ r ≡ leb length lengthLimit ⌝ }
+    {
+        length <= PackedPosting::LENGTH_LIMIT
+    }
+
     // The range from `start` to `end` in one number; an end below its start counts as length 0. Refuses a start at its limit
     // or past it, and then a length above its limit.
     pub fn pack(start: RangeStart, end: u64) -> PackingAnswer
@@ -40,7 +55,7 @@ impl PackedPosting {
         if at >= PackedPosting::START_LIMIT {
             return PackingAnswer::Refused(Refusal::StartTooLarge);
         }
-        let length = range_length(at, end);
+        let length = range_length(start, end);
         if length > PackedPosting::LENGTH_LIMIT {
             return PackingAnswer::Refused(Refusal::RangeTooLong);
         }
@@ -61,8 +76,8 @@ impl PackedPosting {
     }
 }
 
-fn range_length(start: u64, end: u64) -> u64
-    ensures { λ r. ⌜ r ≡ end - start ⌝ }
+fn range_length(start: RangeStart, end: u64) -> u64
+    ensures { λ r. ⌜ r ≡ end - start .0 ⌝ }
 {
-    if end < start { 0 } else { end - start }
+    if end < start.0 { 0 } else { end - start.0 }
 }

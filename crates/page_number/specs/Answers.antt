@@ -1,6 +1,7 @@
 -- What the page number is. Document 01, "Page number".
 use Prim.Native.Nat.{ℕ, _≤_, _<_}
 use mathlib.Core.Bool.{not}
+use mathlib.Core.Logic.{_⊎_, inl, inr}
 use mathlib.Core.List.{List, [], _∷_}
 use lib.ListN.{length, getD}
 use lib.Dec.{eqb}
@@ -8,6 +9,7 @@ use Rattle.lists.specs.Lists.{firstOr}
 use Rattle.refusal.specs.declared.Refusal.the-variants.{WrongDocuments, NoSuchStart}
 use Rattle.refusal.specs.declared.Verdict.{Verdict}
 use Rattle.refusal.specs.declared.Verdict.the-variants as verdict
+use Rattle.refusal.specs.Refusals.{numberOf}
 use Rattle.refusal.specs.First.{Test, _gives_, firstOf}
 use Rattle.page_number.specs.declared.PageNumber.{PageNumber}
 use Rattle.page_number.specs.declared.PageNumber.the-variants.{Document, Refused}
@@ -25,6 +27,11 @@ pageAnswer (verdict.Refused r) i = Refused r
 -- the smallest document whose start is asked for
 unfoldable pub pageNumber : List ℕ → ℕ → PageNumber
 pageNumber offsets s = pageAnswer (firstOf (pageTests offsets s)) (firstOr 0 (startingAt s offsets))
+
+-- an answer in document 01's terms: the number of the refusal, or the document's
+abbrev pub inNumbers : PageNumber → ℕ ⊎ ℕ
+inNumbers (Refused r) = inl (numberOf r)
+inNumbers (Document i) = inr (i .0)
 
 -- r parts the first n offsets into those below s and those not below it
 pub record Found (offsets : List ℕ) (s n r : ℕ) : Type 0 where

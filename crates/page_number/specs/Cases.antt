@@ -3,18 +3,11 @@ use Prim.Native.Nat.{ℕ}
 use mathlib.Core.Path.{_≡_, refl}
 use mathlib.Core.Logic.{_⊎_, inl, inr}
 use mathlib.Core.List.{List, [], _∷_}
-use Rattle.refusal.specs.Refusals.{numberOf}
-use Rattle.page_number.specs.declared.PageNumber.{PageNumber}
-use Rattle.page_number.specs.declared.PageNumber.the-variants.{Document, Refused}
 use Rattle.documents.specs.Documents.{startingAt}
 use Rattle.documents.specs.Checks.{offsetsHoldFree}
-use Rattle.page_number.specs.Answers.{pageNumber}
+use Rattle.page_number.specs.Answers.{pageNumber, inNumbers}
 
--- an answer in this paper's numbers: a refusal's on the left, a document's on the right
-abbrev pub inNumbers : PageNumber → ℕ ⊎ ℕ
-inNumbers (Document i) = inr (i .0)
-inNumbers (Refused r) = inl (numberOf r)
-
+-- offsets and a start, with what they give: the number of a refusal on the left, a document's on the right
 abbrev pub Gives : List ℕ → ℕ → ℕ ⊎ ℕ → Type 0
 Gives offsets s answer = inNumbers (pageNumber offsets s) ≡ answer
 

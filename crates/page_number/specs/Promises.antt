@@ -1,4 +1,4 @@
--- What the page number is, in words: document 01, "Page number". Assumes nothing.
+-- What the page number is, in words and in document 01's numbers: document 01, "Page number". Assumes nothing.
 use Prim.Native.Nat.{ℕ, zero, suc, _<_}
 use native.Mathlib.Omega.{arith}
 use native.Mathlib.Decide.{ℕ-discrete}
@@ -7,12 +7,9 @@ use mathlib.Core.Bool.{Bool, true, false, true≢false}
 use mathlib.Core.Logic.{_⊎_, inl, inr}
 use mathlib.Core.List.{List}
 use lib.ListN.{getD}
-use Rattle.names.specs.declared.DocumentId.{DocumentId}
-use Rattle.refusal.specs.declared.Refusal.the-variants.{WrongDocuments, NoSuchStart}
-use Rattle.page_number.specs.declared.PageNumber.the-variants.{Document, Refused}
 use Rattle.documents.specs.Documents.{count}
 use Rattle.documents.specs.Checks.{offsetsHoldFree}
-use Rattle.page_number.specs.Answers.{pageNumber}
+use Rattle.page_number.specs.Answers.{pageNumber, inNumbers}
 use Rattle.page_number.specs.Pages.{page-refused, page-found, page-none}
 
 -- i is the smallest of n documents whose start is s
@@ -36,22 +33,21 @@ look os s (suc n) = go (look os s n) (ℕ-discrete (getD os n 0) s)
         at k (no g) h f = q k (omega arith) f
 
 -- the answer is the smallest document with the asked start
-pub page-smallest : (os : List ℕ) (s i : ℕ) → pageNumber os s ≡ Document (record { 0 = i }) → Smallest os s (count os) i
+pub page-smallest : (os : List ℕ) (s i : ℕ) → inNumbers (pageNumber os s) ≡ inr i → Smallest os s (count os) i
 page-smallest os s i h = go (offsetsHoldFree os) refl (look os s (count os))
   where
     go : (b : Bool) → offsetsHoldFree os ≡ b → ((i : ℕ) × Smallest os s (count os) i) ⊎ ((k : ℕ) → k < count os → getD os k 0 ≡ s → ⊥) → Smallest os s (count os) i
-    go false e q = absurd (let z = page-refused os s e ∙ h in let w : _≡_ {A = Bool} true false = cc in true≢false w)
+    go false e q = absurd (let z = ap inNumbers (page-refused os s e) ∙ h in let w : _≡_ {A = Bool} true false = cc in true≢false w)
     go true e (inl p) =
-        let z = page-found os s (p .0) e (p .1 .within) (p .1 .starts) (p .1 .none-before) ∙ h in
-        let r : _≡_ {A = DocumentId} (record { 0 = p .0 }) (record { 0 = i }) = cc in
-        let w : p .0 ≡ i = ap (λ d. d .0) r in
+        let z = ap inNumbers (page-found os s (p .0) e (p .1 .within) (p .1 .starts) (p .1 .none-before)) ∙ h in
+        let w : p .0 ≡ i = cc in
         record { within = rw (← w) (p .1 .within); starts = rw (← w) (p .1 .starts); none-before = rw (← w) (p .1 .none-before) }
-    go true e (inr q) = absurd (let z = page-none os s e q ∙ h in let w : _≡_ {A = Bool} true false = cc in true≢false w)
+    go true e (inr q) = absurd (let z = ap inNumbers (page-none os s e q) ∙ h in let w : _≡_ {A = Bool} true false = cc in true≢false w)
 
 -- 6 where the offsets break their rule, the last one free
-pub page-six : (os : List ℕ) (s : ℕ) → offsetsHoldFree os ≡ false → pageNumber os s ≡ Refused WrongDocuments
-page-six os s h = sym (page-refused os s h)
+pub page-six : (os : List ℕ) (s : ℕ) → offsetsHoldFree os ≡ false → inNumbers (pageNumber os s) ≡ inl 6
+page-six os s h = ap inNumbers (sym (page-refused os s h))
 
 -- 15 where they hold and no document has the asked start
-pub page-fifteen : (os : List ℕ) (s : ℕ) → offsetsHoldFree os ≡ true → ((k : ℕ) → k < count os → getD os k 0 ≡ s → ⊥) → pageNumber os s ≡ Refused NoSuchStart
-page-fifteen os s h q = sym (page-none os s h q)
+pub page-fifteen : (os : List ℕ) (s : ℕ) → offsetsHoldFree os ≡ true → ((k : ℕ) → k < count os → getD os k 0 ≡ s → ⊥) → inNumbers (pageNumber os s) ≡ inl 15
+page-fifteen os s h q = ap inNumbers (sym (page-none os s h q))

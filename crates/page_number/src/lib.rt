@@ -17,16 +17,16 @@ pub enum PageNumber {
 
 // The first place, below an end, whose offset is not below a start; the end where there is none. The offsets never fall, so that it
 // halves what is left at each step.
-fn first_from(offsets: &[u64], start: u64, count: usize) -> usize
+fn first_from(offsets: &[u64], start: RangeStart, count: usize) -> usize
     requires { ⌜ count ≤ length (now offsets) ⌝ }
     requires { ⌜ neverFalls (now offsets) ≡ true ⌝ }
-    ensures { λ r. ⌜ Found (now (offsets .entry)) start count r ⌝ }
+    ensures { λ r. ⌜ Found (now (offsets .entry)) (start .0) count r ⌝ }
 {
     let mut low = 0usize;
     let mut high = count;
     while low < high {
         let middle = low + (high - low) / 2;
-        if offsets[middle] < start {
+        if offsets[middle] < start.0 {
             low = middle + 1;
         } else {
             high = middle;
@@ -45,7 +45,7 @@ pub fn page_number(offsets: &[u64], start: RangeStart) -> PageNumber
     }
     let asked = start.0;
     let count = offsets.len() - 1;
-    let at = first_from(offsets, asked, count);
+    let at = first_from(offsets, start, count);
     if at < count {
         if offsets[at] == asked {
             return PageNumber::Document(DocumentId(at as u64));

@@ -22,15 +22,19 @@ use Rattle.evaluating.specs.Ranges.{rangeReading}
 pub use Rattle.evaluating.specs.Postings.{Lends, lends}
 pub use Rattle.sweeping.specs.Turns.{listed}
 
--- an answer in document 01's terms: the number of the refusal, or 0, and the values that go with it
+-- an answer in document 01's terms: the number of the refusal, or 0, and the values that go with it; each is 0 where the answer has none of
+-- its kind
 pub record InNumbers : Type 0 where
   pub number : ℕ
-  pub values : List ℕ
+  pub position : ℕ
+  pub kept : ℕ
+  pub evaluated : ℕ
+  pub skipped : ℕ
 
 abbrev pub inNumbers : Answer → InNumbers
-inNumbers (Refused r) = record { number = numberOf r; values = [] }
-inNumbers (Stopped r i) = record { number = numberOf r; values = i ∷ [] }
-inNumbers (Found n e s) = record { number = 0; values = n ∷ e ∷ s ∷ [] }
+inNumbers (Refused r) = record { number = numberOf r; position = 0; kept = 0; evaluated = 0; skipped = 0 }
+inNumbers (Stopped r i) = record { number = numberOf r; position = i; kept = 0; evaluated = 0; skipped = 0 }
+inNumbers (Found n e s) = record { number = 0; position = 0; kept = n; evaluated = e; skipped = s }
 
 -- the query and the documents' terms
 pub record Terms : Type 0 where

@@ -6,6 +6,7 @@ use mathlib.Core.List.{List, [], _∷_, map, zipWith}
 use lib.Ieee.{Float, binary32, ofBits, le, add, mul, ofInt}
 use Rattle.float32.specs.Bound.{inBound}
 use Rattle.documents.specs.Documents.{term}
+use Rattle.blocking.specs.Limits.{listLimit, blockLimit}
 use Rattle.quantizing.specs.Quantizing.{stepAllowed}
 use Rattle.quantized_summary.specs.Layout.{Layout, arrays, entries, entriesAt}
 use Rattle.quantized_summary.specs.WellFormed.{blocksHold, lengthsHold, offsetsHold, idsHold, boundsHold, wellFormed}
@@ -63,7 +64,7 @@ pub record Table : Type 0 where
   pub no-query : scoresOf small [] ≡ numbers (0x00000000 ∷ 0x00000000 ∷ [])
 
 pub table : Table
-unfolding wellFormed blocksHold lengthsHold offsetsHold idsHold boundsHold stepAllowed inBound entries entriesAt scoreOf scoresOf zipWith ofBits le add mul ofInt
+unfolding wellFormed listLimit blockLimit blocksHold lengthsHold offsetsHold idsHold boundsHold stepAllowed inBound entries entriesAt scoreOf scoresOf zipWith ofBits le add mul ofInt
 table = record {
   accepted = refl;
   any-start-and-end = refl;

@@ -14,6 +14,7 @@ use Rattle.lists.specs.Laws.{both}
 use Rattle.float32.specs.Bound.{inBound, Bounded}
 use Rattle.float32.specs.BoundLaws.{in-bound-bounded}
 use Rattle.float32.specs.Sums.{Within, within-finite, within-no-nan, read-product-within}
+use Rattle.blocking.specs.Limits.{listLimit, blockLimit}
 use Rattle.documents.specs.Documents.{Term, dot}
 use Rattle.quantizing.specs.Quantizing.{minimumAllowed, stepAllowed}
 use Rattle.quantizing.specs.Extremes.{F32}
@@ -41,7 +42,7 @@ pub record Parts (l : Layout) : Type 0 where
 pub parts : (postings : ℕ) (blockOffsets : List ℕ) (l : Layout) → wellFormed postings blockOffsets l ≡ true → Parts l
 unfolding wellFormed lengthsHold boundsHold
 parts postings blockOffsets l h =
-    let a = both (leb (length (l .minimums)) 65535 && leb postings 16777216) _ h in
+    let a = both (leb (length (l .minimums)) blockLimit && leb postings listLimit) _ h in
     let b = both (blocksHold postings (length (l .minimums)) blockOffsets) _ (a .1) in
     let c = both (eqb (length (l .offsets)) (suc (length (l .components))) && (eqb (length (l .ids)) (length (l .codes)) && eqb (length (l .minimums)) (length (l .steps)))) _ (b .1) in
     let d = both (strictlyRise (l .components)) _ (c .1) in

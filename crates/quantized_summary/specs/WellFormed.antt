@@ -6,14 +6,9 @@ use lib.ListN.{length}
 use lib.Dec.{leb, ltb, eqb}
 use lib.Ieee.{Float}
 use Rattle.lists.specs.Lists.{every, firstOr, lastOr, between, neverFalls, strictlyRise}
+use Rattle.blocking.specs.Limits.{listLimit, blockLimit}
 use Rattle.quantizing.specs.Quantizing.{minimumAllowed, stepAllowed}
 use Rattle.quantized_summary.specs.Layout.{Layout}
-
-abbrev pub summaryLimit : ℕ
-summaryLimit = 65535
-
-abbrev pub postingLimit : ℕ
-postingLimit = 16777216
 
 -- one block offset more than blocks, never falling, the last one not past the postings; none is looked at when there are no summaries
 unfoldable pub blocksHold : ℕ → ℕ → List ℕ → Bool
@@ -36,7 +31,7 @@ boundsHold minimums steps = every minimumAllowed minimums && every stepAllowed s
 
 unfoldable pub wellFormed : ℕ → List ℕ → Layout → Bool
 wellFormed postings blockOffsets l =
-    (leb (length (l .minimums)) summaryLimit && leb postings postingLimit)
+    (leb (length (l .minimums)) blockLimit && leb postings listLimit)
     && (blocksHold postings (length (l .minimums)) blockOffsets
     && (lengthsHold l
     && (strictlyRise (l .components)

@@ -1,5 +1,6 @@
 // The sparse layout of a list's summaries: the score of each summary for a query. Its check stands in crate list_checks.
 use lists::shorter;
+use names::BlockNumber;
 ghost use mathlib.Core.Path.{_≡_};
 ghost use mathlib.Core.Bool.{false};
 ghost use mathlib.Core.List.{_++_};
@@ -76,22 +77,29 @@ fn range_at(components: &[u32], offsets: &[u64], place: usize, c: u32) -> Range
     }
 }
 
-// Adds an entry's value times the query's to the score of its summary, if that is one of the first n.
+// The number of a block as an entry holds it.
+fn block_of(id: u16) -> BlockNumber
+    ensures { λ r. ⌜ r .0 ≡ id ⌝ }
+{
+    BlockNumber(id as u64)
+}
+
+// Adds an entry's value times the query's to the score of its block's summary, if that is one of the first n.
 fn add_entry(
     n: usize,
     minimums: &[f32],
     steps: &[f32],
     value: f32,
-    id: u16,
+    block: BlockNumber,
     code: u8,
     scores: &mut [f32],
 )
     requires { ⌜ n ≤ length (now minimums) ⌝ }
     requires { ⌜ n ≤ length (now steps) ⌝ }
     requires { ⌜ n ≤ length (now scores) ⌝ }
-    ensures { λ _. ⌜ now (scores .exit) ≡ grown n (now (minimums .entry)) (now (steps .entry)) value (entry id code) (now (scores .entry)) ⌝ }
+    ensures { λ _. ⌜ now (scores .exit) ≡ grown n (now (minimums .entry)) (now (steps .entry)) value (entry (block .0) code) (now (scores .entry)) ⌝ }
 {
-    let s = id as usize;
+    let s = block.0 as usize;
     if s < n {
         scores[s] = scores[s] + ((code as f32) * steps[s] + minimums[s]) * value;
     }
@@ -118,7 +126,15 @@ fn add_entries(
 {
     let mut i = from;
     while i < to {
-        add_entry(n, minimums, steps, value, ids[i], codes[i], scores);
+        add_entry(
+            n,
+            minimums,
+            steps,
+            value,
+            block_of(ids[i]),
+            codes[i],
+            scores,
+        );
         i += 1;
     }
 }

@@ -1,4 +1,5 @@
--- Worked cases of quantizing, those of document 01 first. Values stand as their bit patterns; the lent codes hold 9 throughout. Assumes nothing.
+-- Worked cases of quantizing beside document 01's pages marked P, which stand in worked_cases/Pages. Values stand as their bit patterns;
+-- the lent codes hold 9 throughout. Assumes nothing.
 use mathlib.Core.Path.{_≡_, refl}
 use mathlib.Core.Logic.{_⊎_, inl, inr}
 use mathlib.Core.Bool.{true, false}
@@ -27,30 +28,6 @@ told l = (inNumbers (l .answer), l .codes)
 -- what codes are read back as
 abbrev pub readAll : Float → Float → List ℕ → List Float
 readAll low step codes = map (readBack low step) codes
-
--- 0, 100, 255: step 1, codes 0, 100, 255
-pub whole-steps : told (quantized (valuesOf (0x00000000 ∷ 0x42c80000 ∷ 0x437f0000 ∷ [])) (9 ∷ 9 ∷ 9 ∷ 9 ∷ [])) ≡ (inr (value 0x00000000, value 0x3f800000), 0 ∷ 100 ∷ 255 ∷ 9 ∷ [])
-unfolding quantized least greatest atMost inBound byteOf ofBits sub div ofInt
-whole-steps = refl
-
--- 0, 0.5, 255: a tie goes away from zero, so the codes are 0, 1, 255
-pub tie-goes-up : told (quantized (valuesOf (0x00000000 ∷ 0x3f000000 ∷ 0x437f0000 ∷ [])) (9 ∷ 9 ∷ 9 ∷ [])) ≡ (inr (value 0x00000000, value 0x3f800000), 0 ∷ 1 ∷ 255 ∷ [])
-unfolding quantized least greatest atMost inBound byteOf ofBits sub div ofInt
-tie-goes-up = refl
-
--- 5, 5: step 0, codes 0, 0
-pub no-span : told (quantized (valuesOf (0x40a00000 ∷ 0x40a00000 ∷ [])) (9 ∷ 9 ∷ [])) ≡ (inr (value 0x40a00000, value 0x00000000), 0 ∷ 0 ∷ [])
-unfolding quantized least greatest atMost inBound byteOf ofBits sub div ofInt
-no-span = refl
-
--- 0 and 2 ^ -149: the step rounds to 0, so the codes are cut to 0 and 255, and both are read as 0
-pub tiny-span : told (quantized (valuesOf (0x00000000 ∷ 0x00000001 ∷ [])) (9 ∷ 9 ∷ [])) ≡ (inr (value 0x00000000, value 0x00000000), 0 ∷ 255 ∷ [])
-unfolding quantized least greatest atMost inBound byteOf ofBits sub div ofInt
-tiny-span = refl
-
-pub tiny-span-read : readAll (value 0x00000000) (value 0x00000000) (0 ∷ 255 ∷ []) ≡ valuesOf (0x00000000 ∷ 0x00000000 ∷ [])
-unfolding ofBits add mul ofInt
-tiny-span-read = refl
 
 -- 1, 2, 511: step 2, and 2, which is half a step above 1, is read back as 3
 pub half-a-step : told (quantized (valuesOf (0x3f800000 ∷ 0x40000000 ∷ 0x43ff8000 ∷ [])) (9 ∷ 9 ∷ 9 ∷ [])) ≡ (inr (value 0x3f800000, value 0x40000000), 0 ∷ 1 ∷ 255 ∷ [])

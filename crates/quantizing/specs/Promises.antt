@@ -1,7 +1,8 @@
--- What quantizing promises of every accepted list, with no word on code. Assumes nothing.
+-- What quantizing promises, with no word on code: which answer is given when, in document 01's numbers, and what holds of every accepted
+-- list. Assumes nothing.
 use mathlib.Core.Path.{_≡_, refl, sym, ap, _∙_, subst}
 use mathlib.Core.Bool.{true, false}
-use mathlib.Core.Logic.{inr}
+use mathlib.Core.Logic.{_⊎_, inl, inr}
 use mathlib.Core.List.{List, _++_, map}
 use Prim.Native.Nat.{ℕ, _+_, _-_, _*_, _^_, _≤_, _<_}
 use native.Mathlib.Omega.{arith}
@@ -12,6 +13,12 @@ use lib.Dec.{T}
 use lib.Ieee.{Float, nan, fin, binary32, fits, le, eq, sub, div, ofInt}
 use lib.Ieee.Fits.{and-l}
 use lib.Ieee.Scale.{finite}
+use borrow.Author.Tests.{eq-eqb, ne-eqb, lt-ltb, le-ltb}
+use Rattle.refusal.specs.declared.Refusal.the-variants.{EmptySummary, WrongTerms, BufferTooShort}
+use Rattle.refusal.specs.declared.Verdict.{Verdict}
+use Rattle.refusal.specs.declared.Verdict.the-variants.{Accepted, Refused}
+use Rattle.refusal.specs.First.{firstOf}
+use Rattle.lists.specs.Lists.{every}
 use Rattle.float32.specs.Bound.{inBound, Bounded}
 use Rattle.float32.specs.BoundLaws.{in-bound-bounded, bounded-in-bound}
 use Rattle.float32.specs.OrderLaws.{atMost-ordered, atMost-trans}
@@ -25,8 +32,33 @@ use Rattle.quantizing.specs.Accepted.{Quantizable, answered}
 use Rattle.quantizing.specs.Demand3.{Demand3, Drifts, F32s, allowance, leastStep}
 use Rattle.quantizing.specs.Drift as drift
 use Rattle.quantizing.specs.Ends.{Ends, ends}
-use Rattle.quantizing.specs.Quantizing.{least, greatest, stepOf, codeOf, readBack, stepFor, left, quantized, inNumbers, minimumAllowed, stepAllowed}
+use Rattle.quantizing.specs.Quantizing.{least, greatest, stepOf, codeOf, readBack, stepFor, codesFor, tests, left, inNumbers, by, quantized, minimumAllowed, stepAllowed}
 use Rattle.quantizing.specs.Steps.{step-of-bounded, step-stored}
+
+-- ---- 0: which answer is given, and the lent codes afterwards
+-- the number of a refusal on the left, the least value and the step on the right
+pub record Gives (values : List Float) (lent : List ℕ) (answer : ℕ ⊎ (Float × Float)) (after : List ℕ) : Type 0 where
+  pub answers : inNumbers (quantized values lent .answer) ≡ answer
+  pub leaves : quantized values lent .codes ≡ after
+
+module _ (values : List Float) (lent : List ℕ) where
+  by-verdict : (v : Verdict) → firstOf (tests values lent) ≡ v → Gives values lent (inNumbers (by v values lent .answer)) (by v values lent .codes)
+  unfolding quantized
+  by-verdict v e = record { answers = ap (λ w. inNumbers (by w values lent .answer)) e; leaves = ap (λ w. by w values lent .codes) e }
+
+  pub refuses-none : length values ≡ 0 → Gives values lent (inl 7) lent
+  refuses-none h = by-verdict (Refused EmptySummary) (rw (eq-eqb (length values) 0 h))
+
+  module _ (some : length values ≡ 0 → ⊥) where
+    pub refuses-values : every inBound values ≡ false → Gives values lent (inl 14) lent
+    refuses-values h = by-verdict (Refused WrongTerms) (rw (ne-eqb (length values) 0 some, h))
+
+    module _ (bounded : every inBound values ≡ true) where
+      pub refuses-buffer : length lent < length values → Gives values lent (inl 4) lent
+      refuses-buffer h = by-verdict (Refused BufferTooShort) (rw (ne-eqb (length values) 0 some, bounded, lt-ltb (length lent) (length values) h))
+
+      pub quantizes : length values ≤ length lent → Gives values lent (inr (least values, stepFor values)) (codesFor values ++ drop (length values) lent)
+      quantizes h = by-verdict Accepted (rw (ne-eqb (length values) 0 some, bounded, le-ltb (length lent) (length values) h))
 
 -- ---- 1: what quantizing leaves, place by place
 pub record EachCode (values : List Float) (lent codes : List ℕ) (low step : Float) : Type 0 where

@@ -51,7 +51,7 @@ fn turn_at(
     ensures { λ r. ⌜ r ≡ turnAt k factor (now (dots .entry)) (now (order .entry)) at length (now (scores .entry)) ⌝ }
 {
     let block = held::number_at(order, at);
-    let score = held::dot_at(dots, block.0 as usize);
+    let score = held::dot_at(dots, block);
     let worst = held::worst_kept(length, scores);
     let skipped = turns::skips(k, factor, score, length, worst);
     Turn {
@@ -130,9 +130,8 @@ pub fn see_turn(
 fn block_holds(blocks: &[u64], count: usize, position: u64, block: BlockNumber) -> bool
     ensures { λ r. ⌜ r ≡ holds (now (blocks .entry)) count position (block .0) ⌝ }
 {
-    let at = block.0 as usize;
-    let first = held::offset_at(blocks, at);
-    let end = turns::least(held::end_at(blocks, at), count);
+    let first = held::start_at(blocks, block);
+    let end = turns::least(held::end_at(blocks, block), count);
     (first <= position) & ((position as usize) < end)
 }
 
@@ -216,7 +215,7 @@ fn probe_to(
         scores,
         visits,
     );
-    let posting = held::offset_at(postings, position as usize);
+    let posting = held::entry_at(postings, position as usize);
     let bytes = components.len() + 1;
     let n = shorter(visits.len(), bytes);
     reached_fate(answer, PackedPosting(posting), &visits[..n])
@@ -259,14 +258,10 @@ fn probed_block(blocks: &[u64], turn: TurnSeen) -> Probed
             first: 0,
             score: 0.0,
         },
-        TurnSeen::Taken(t) => {
-            let block = t.block;
-            let at = block.0 as usize;
-            Probed {
-                first: held::offset_at(blocks, at),
-                score: t.score,
-            }
-        }
+        TurnSeen::Taken(t) => Probed {
+            first: held::start_at(blocks, t.block),
+            score: t.score,
+        },
     }
 }
 

@@ -1,2 +1,3 @@
 pub mod Refusals
 pub mod First
+pub mod Numbered

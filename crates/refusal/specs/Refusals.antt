@@ -1,7 +1,10 @@
--- The numbers of the refusals: document 01, "Numbered refusals".
+-- The numbers of the refusals: document 01, "Numbered refusals". Every answer gets its number from here, through one definition in the
+-- crate of the answer.
 use Prim.Native.Nat.{ℕ}
 use Rattle.refusal.specs.declared.Refusal.{Refusal}
 use Rattle.refusal.specs.declared.Refusal.the-variants.{StartTooLarge, RangeTooLong, NoBlockSize, BufferTooShort, WrongCentroids, WrongDocuments, EmptySummary, OutsideLimits, MalformedList, WrongQuery, NothingToKeep, WrongKeptList, PastTheTerms, WrongTerms, NoSuchStart}
+use Rattle.refusal.specs.declared.Verdict.{Verdict}
+use Rattle.refusal.specs.declared.Verdict.the-variants.{Accepted, Refused}
 
 abbrev pub numberOf : Refusal → ℕ
 numberOf StartTooLarge = 1
@@ -19,3 +22,8 @@ numberOf WrongKeptList = 12
 numberOf PastTheTerms = 13
 numberOf WrongTerms = 14
 numberOf NoSuchStart = 15
+
+-- a verdict in document 01's terms: 0 where the call is accepted, else the number of its refusal
+abbrev pub verdictNumber : Verdict → ℕ
+verdictNumber Accepted = 0
+verdictNumber (Refused r) = numberOf r

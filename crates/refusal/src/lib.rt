@@ -1,6 +1,6 @@
 // Why a call is refused. The numbers stand here and nowhere else.
 ghost use mathlib.Core.Path.{_≡_};
-ghost use Rattle.refusal.specs.Refusals.{numberOf};
+ghost use Rattle.refusal.specs.Refusals.{numberOf, verdictNumber};
 
 // One reason for each numbered refusal, in the order of the numbers.
 pub enum Refusal {
@@ -63,6 +63,18 @@ impl Refusal {
             Refusal::PastTheTerms => 13,
             Refusal::WrongTerms => 14,
             Refusal::NoSuchStart => 15,
+        }
+    }
+}
+
+impl Verdict {
+    // 0 for an accepted call, else the refusal's number.
+    pub fn number(self) -> u64
+        ensures { λ r. ⌜ r ≡ verdictNumber self ⌝ }
+    {
+        match self {
+            Verdict::Accepted => 0,
+            Verdict::Refused(refusal) => refusal.number(),
         }
     }
 }

@@ -1,6 +1,6 @@
 -- A recorded build: what it was given, and whether an answer is the recorded one. src/lib.rt says which word is which.
 use Prim.Native.Nat.{ℕ}
-use mathlib.Core.Bool.{Bool, false, _&&_}
+use mathlib.Core.Bool.{Bool, _&&_}
 use mathlib.Core.List.{List, map}
 use lib.ListN.{length, getD, replicate}
 use lib.Dec.{eqb}
@@ -9,10 +9,8 @@ use Rattle.float32.specs.Key.{keyOf, valueOf}
 use Rattle.configuration.specs.declared.BlockingStrategy.{BlockingStrategy}
 use Rattle.configuration.specs.declared.SummarizationStrategy.{SummarizationStrategy}
 use Rattle.documents.specs.Documents.{documents}
-use Rattle.building.specs.declared.BuildAnswer.{BuildAnswer}
-use Rattle.building.specs.declared.BuildAnswer.the-variants.{Refused, Built}
 use Rattle.building.specs.Built.{Input, input}
-use Rattle.building.specs.Building.{Outputs, outputs}
+use Rattle.building.specs.Building.{Outputs, outputs, InNumbers, inNumbers}
 use Rattle.short_list.specs.Short.{Made, madeShort}
 use Rattle.build_numbers.specs.Chosen.{blockingOf, summarizationOf}
 use Rattle.recorded.specs.Words.{long, sliceAt, spread, itself}
@@ -44,9 +42,11 @@ unfoldable pub used : Float → Outputs
 used odd = outputs (replicate 64 5) (replicate 64 6) (replicate 32 7) (replicate 32 8) (replicate 256 9) (replicate 256 10) (replicate 64 odd) (replicate 64 odd)
 
 -- ---- what it must leave
-abbrev pub sizesHeld : List ℕ → BuildAnswer → Bool
-sizesHeld w (Refused r) = false
-sizesHeld w (Built s) = eqb (s .postings) (length (sliceAt w 21 w)) && eqb (s .offsets) (length (sliceAt w 22 w)) && eqb (s .components) (length (sliceAt w 23 w)) && eqb (s .entries) (length (sliceAt w 25 w)) && eqb (s .summaries) (length (sliceAt w 27 w))
+-- 0, and as many numbers in front of the outputs as the original has
+abbrev pub sizesHeld : List ℕ → InNumbers → Bool
+sizesHeld w z =
+    eqb (z .number) 0 && eqb (z .postingsWritten) (length (sliceAt w 21 w)) && eqb (z .offsetsWritten) (length (sliceAt w 22 w)) && eqb (z .componentsWritten) (length (sliceAt w 23 w))
+    && eqb (z .entriesWritten) (length (sliceAt w 25 w)) && eqb (z .summariesWritten) (length (sliceAt w 27 w))
 
 -- the original's numbers in front, and past them what was there before
 abbrev pub numbersHeld : List ℕ → List ℕ → List ℕ → List ℕ → List ℕ → Bool
@@ -58,7 +58,7 @@ entriesHeld w ids codes minimums steps = held ids (sliceAt w 25 w) 9 && held cod
 -- accepted, with both
 unfoldable pub agreed : List ℕ → Made → Bool
 agreed w m =
-    sizesHeld w (m .answer) && numbersHeld w (m .output .postings) (m .output .offsets) (m .output .components) (m .output .componentOffsets)
+    sizesHeld w (inNumbers (m .answer)) && numbersHeld w (m .output .postings) (m .output .offsets) (m .output .components) (m .output .componentOffsets)
     && entriesHeld w (m .output .ids) (m .output .codes) (m .output .minimums) (m .output .steps)
 
 -- whether a recorded build is what a build means

@@ -7,6 +7,7 @@ use lib.ListN.{length, getD, replicate}
 use lib.Dec.{eqb}
 use lib.Ieee.{Float}
 use Rattle.refusal.specs.declared.Verdict.{Verdict}
+use Rattle.refusal.specs.Refusals.{verdictNumber}
 use Rattle.float32.specs.Key.{keyOf, valueOf}
 use Rattle.float32.specs.KeyLaws.{key-of-nan}
 use Rattle.packing.specs.declared.PackingAnswer.{PackingAnswer}
@@ -22,7 +23,7 @@ use Rattle.kept_list.specs.Lent.{lent}
 use Rattle.kept_list.specs.Push as push
 use Rattle.recorded.specs.Words.{long, sliceAt, spread, itself}
 use Rattle.expected.specs.Held.{held}
-use Rattle.replay_leaves.specs.Case.{isPacked, isWritten, isSummary, isAccepted, quantizedAs, pushedAs, packsAgree, blocksAgree, quantizesAgree, pushesAgree}
+use Rattle.replay_leaves.specs.Case.{isPacked, isWritten, isSummary, quantizedAs, pushedAs, packsAgree, blocksAgree, quantizesAgree, pushesAgree}
 
 pub packs-by : (w : List ℕ) {a : PackingAnswer} {start end n : ℕ} {r : Bool} → start ≡ long w 1 → end ≡ long w 3 → a ≡ packed start end → n ≡ long w 5 → r ≡ isPacked a n → r ≡ packsAgree w
 unfolding packsAgree
@@ -46,12 +47,12 @@ quantizes-by w {a} {codes = codes} p q e x y z r s =
     let left-by : left a codes ≡ quantized (sliceAt w 3 (spread valueOf 1024 w)) (replicate 64 9) = e ∙ rw (q, p) in rw (r, s, x, y, z) (ap (quantizedAs w) left-by)
 
 -- the call, and then what it left against what was recorded
-pub pushes-by : (w : List ℕ) {v : Verdict} {e : Scored} {ps xs qs ys : List ℕ} {k n p m o : ℕ} {packed packed' : List ℕ} {scores scores' : List Float} {x : Float} {a b c : Bool}
+pub pushes-by : (w : List ℕ) {v : Verdict} {e : Scored} {ps xs qs ys : List ℕ} {k n p m o z : ℕ} {packed packed' : List ℕ} {scores scores' : List Float} {x : Float} {b c : Bool}
     → ps ≡ sliceAt w 6 w → packed ≡ spread itself 8 ps → xs ≡ sliceAt w 7 w → scores ≡ spread valueOf 8 xs
     → n ≡ getD w 2 0 → p ≡ getD w 3 0 → x ≡ valueOf (getD w 4 0) → e ≡ scored p x → k ≡ getD w 1 0
     → push.left v (lent m packed' scores') ≡ push.pushed k e (lent n packed scores)
-    → a ≡ isAccepted v → o ≡ getD w 5 0 → qs ≡ sliceAt w 8 w → b ≡ held packed' qs 0 → ys ≡ sliceAt w 9 w → c ≡ held (map keyOf scores') ys 4294967295
-    → a && eqb m o && b && c ≡ pushesAgree w
+    → z ≡ verdictNumber v → o ≡ getD w 5 0 → qs ≡ sliceAt w 8 w → b ≡ held packed' qs 0 → ys ≡ sliceAt w 9 w → c ≡ held (map keyOf scores') ys 4294967295
+    → eqb z 0 && eqb m o && b && c ≡ pushesAgree w
 unfolding pushesAgree pushedAs
 pushes-by w {v} {m = m} {packed' = packed'} {scores' = scores'} p1 p2 p3 p4 p5 p6 p7 p8 p9 e q1 q2 q3 q4 q5 q6 =
     let left-by : push.left v (lent m packed' scores') ≡ push.pushed (getD w 1 0) (scored (getD w 3 0) (valueOf (getD w 4 0))) (lent (getD w 2 0) (spread itself 8 (sliceAt w 6 w)) (spread valueOf 8 (sliceAt w 7 w)))

@@ -9,9 +9,8 @@ use recorded::float;
 use recorded::long;
 use recorded::word;
 use recorded::words_of;
-use refusal::Verdict;
 ghost use mathlib.Core.Path.{_≡_};
-ghost use Rattle.replay_leaves.specs.Case.{isPacked, isWritten, isSummary, isAccepted, packsAgree, blocksAgree, quantizesAgree, pushesAgree};
+ghost use Rattle.replay_leaves.specs.Case.{isPacked, isWritten, isSummary, packsAgree, blocksAgree, quantizesAgree, pushesAgree};
 
 // Whether a range was packed, and into this number.
 fn is_packed(answer: PackingAnswer, number: u64) -> bool
@@ -42,15 +41,6 @@ fn is_summary(answer: Quantized, least_key: u32, step_key: u32) -> bool
             (float32::key(least) == least_key) & (float32::key(step) == step_key)
         }
         Quantized::Refused(_) => false,
-    }
-}
-
-fn is_accepted(verdict: Verdict) -> bool
-    ensures { λ r. ⌜ r ≡ isAccepted verdict ⌝ }
-{
-    match verdict {
-        Verdict::Accepted => true,
-        Verdict::Refused(_) => false,
     }
 }
 
@@ -97,7 +87,7 @@ pub fn pushes_agree(w: &[u32]) -> bool
     let mut length = word(w, 2) as u64;
     let e = Scored::new(word(w, 3) as u64, float(w, 4));
     let verdict = pushing::push(word(w, 1) as u64, &mut length, &mut packed, &mut scores, e);
-    is_accepted(verdict)
+    (verdict.number() == 0)
         & (length == word(w, 5) as u64)
         & expected::same_longs(&packed, words_of(w, 8), 0)
         & expected::same_floats(&scores, words_of(w, 9), 0xffff_ffff)

@@ -1,11 +1,13 @@
 -- What a push onto a slice of entries answers: the new length, or the reason why it is refused.
 use Prim.Native.Nat.{ℕ, suc, min}
 use mathlib.Core.Bool.{Bool, true, false, not, _&&_}
+use mathlib.Core.Logic.{_⊎_, inl, inr}
 use mathlib.Core.List.{[], _∷_}
 use lib.Dec.{ltb, eqb}
 use Rattle.refusal.specs.declared.Refusal.the-variants.{NothingToKeep, WrongKeptList, BufferTooShort}
 use Rattle.refusal.specs.declared.Verdict.{Verdict}
 use Rattle.refusal.specs.declared.Verdict.the-variants as verdict
+use Rattle.refusal.specs.Refusals.{numberOf}
 use Rattle.refusal.specs.First.{_gives_, firstOf}
 use Rattle.kept_list.specs.declared.Scored.{Scored}
 use Rattle.kept_list.specs.Push.{isNumber}
@@ -33,3 +35,8 @@ verdictIn (answer.Refused r) = verdict.Refused r
 abbrev pub lengthIn : ℕ → Pushed → ℕ
 lengthIn n (answer.Kept m) = m
 lengthIn n (answer.Refused r) = n
+
+-- an answer in document 01's terms: the number of the refusal, or how many entries are kept
+abbrev pub inNumbers : Pushed → ℕ ⊎ ℕ
+inNumbers (answer.Refused r) = inl (numberOf r)
+inNumbers (answer.Kept n) = inr n

@@ -14,8 +14,9 @@ use Rattle.refusal.specs.declared.Refusal.the-variants.{NothingToKeep, WrongQue
 use Rattle.refusal.specs.declared.Verdict.{Verdict}
 use Rattle.refusal.specs.declared.Verdict.the-variants as verdict
 use Rattle.refusal.specs.First.{_gives_, firstOf, faultless, accepted-by}
+use Rattle.blocking.specs.Limits.{listLimit, blockLimit}
 use Rattle.documents.specs.Checks.{slicesHold}
-use Rattle.documents.specs.Documents.{Term, paired}
+use Rattle.documents.specs.Documents.{Term}
 use Rattle.kept_list.specs.Lent.{Lent, entries, places}
 use Rattle.kept_list.specs.Push.{sound, wellKept}
 use Rattle.quantized_summary.specs.Layout.{Layout}
@@ -26,6 +27,7 @@ use Rattle.probing.specs.declared.Answer.the-variants.{Refused}
 use Rattle.probing.specs.Probed.{Lends, Left, left, laid, listed, probed, tests as probingTests}
 use Rattle.search.specs.Order.{byScore}
 use Rattle.search.specs.Searched.{Question, blockCount, scoresFor, swept, room, tests, scorePlaces, leaves, searched, orderPlaces, leavesInOrder, searchedInOrder}
+use Rattle.search.specs.Dots.{queryTerms}
 use Rattle.search.specs.Numbers.{numbersLeft, Slices, searched-numbers, ordered-numbers}
 use Rattle.search.proofs.Fronts.{front, put-front, none-listed, all-listed}
 use Rattle.search.proofs.Keyed.{order-length}
@@ -41,16 +43,16 @@ no-more : (a b : ℕ) → leb a b ≡ true → ltb b a ≡ false
 no-more a b h = le-ltb b a (leb-true a b h)
 
 -- ---- the parts of what was accepted
-well-few : (m : ℕ) (os : List ℕ) (y : Layout) → wellFormed m os y ≡ true → length (y .minimums) ≤ 65535
+well-few : (m : ℕ) (os : List ℕ) (y : Layout) → wellFormed m os y ≡ true → length (y .minimums) ≤ blockLimit
 unfolding wellFormed
 well-few m os y w =
-    leb-true (length (y .minimums)) 65535
-    (both (leb (length (y .minimums)) 65535) (leb m 16777216) (both (leb (length (y .minimums)) 65535 && leb m 16777216) _ w .0) .0)
+    leb-true (length (y .minimums)) blockLimit
+    (both (leb (length (y .minimums)) blockLimit) (leb m listLimit) (both (leb (length (y .minimums)) blockLimit && leb m listLimit) _ w .0) .0)
 
 well-even : (m : ℕ) (os : List ℕ) (y : Layout) → wellFormed m os y ≡ true → length (y .minimums) ≡ length (y .steps)
 unfolding wellFormed lengthsHold
 well-even m os y w =
-    let a = both (leb (length (y .minimums)) 65535 && leb m 16777216) _ w .1 in
+    let a = both (leb (length (y .minimums)) blockLimit && leb m listLimit) _ w .1 in
     let c = both (blocksHold m (length (y .minimums)) os) _ a .1 in
     let d = both (eqb (length (y .offsets)) (suc (length (y .components))) && (eqb (length (y .ids)) (length (y .codes)) && eqb (length (y .minimums)) (length (y .steps)))) _ c .0 in
     let f = both (eqb (length (y .offsets)) (suc (length (y .components)))) _ d .1 in
@@ -66,9 +68,6 @@ least a b e = omega arith
 short : (k p s c v : ℕ) → leb k p ≡ true → leb k s ≡ true → ltb c v ≡ true → ((ltb p k || ltb s k) || leb v c) ≡ false
 short k p s c v x y z = rw (no-more k p x, no-more k s y, lt-leb v c (ltb-true c v z))
 
-abbrev queryOf : Question → List Term
-queryOf q = paired (q .terms .queryComponents) (q .terms .queryValues)
-
 -- what an accepted question has
 module _ (q : Question) (l : Lends) (b : Bool) (v : Verdict) (e : v ≡ firstOf (tests q l b)) (h : v ≡ verdict.Accepted) where
   well : wellFormed (length (q .postings)) (q .offsets) (q .layout) ≡ true
@@ -77,7 +76,7 @@ module _ (q : Question) (l : Lends) (b : Bool) (v : Verdict) (e : v ≡ firstOf 
   roomy : room q l b ≡ true
   roomy = not-false (room q l b) (faultless (tests q l b) (sym e ∙ h) .1 .1 .1 .1 .1 .0)
 
-  pub few-blocks : blockCount q ≤ 65535
+  pub few-blocks : blockCount q ≤ blockLimit
   few-blocks = well-few (length (q .postings)) (q .offsets) (q .layout) well
 
   pub as-many : length (q .layout .minimums) ≡ length (q .layout .steps)
@@ -87,7 +86,7 @@ module _ (q : Question) (l : Lends) (b : Bool) (v : Verdict) (e : v ≡ firstOf 
   block-places = both (ltb (length (q .terms .components)) (length (l .visits))) b (both (places (q .k) (l .kept)) _ roomy .1) .1
 
   scores-many : length (scoresFor q) ≡ blockCount q
-  scores-many = scores-length (q .layout) (queryOf q) ∙ least (length (q .layout .minimums)) (length (q .layout .steps)) as-many
+  scores-many = scores-length (q .layout) (queryTerms (q .terms)) ∙ least (length (q .layout .minimums)) (length (q .layout .steps)) as-many
 
   -- what probing asks is among it
   probing-accepts : firstOf (probingTests (q .k) (q .terms) l) ≡ verdict.Accepted

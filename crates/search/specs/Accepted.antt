@@ -1,24 +1,23 @@
 -- What the tests of an accepted search say of the kept list and of the ranges that can be scored. Assumes nothing.
-use Prim.Native.Nat.{ℕ, _+_, _-_, _≤_}
-use mathlib.Core.Path.{_≡_, refl}
-use mathlib.Core.Bool.{Bool, true, false, _&&_, cond}
+use Prim.Native.Nat.{ℕ, _≤_}
+use mathlib.Core.Path.{_≡_}
+use mathlib.Core.Bool.{true, _&&_}
 use lib.ListN.{length}
 use lib.Ieee.{Float}
 use lib.Dec.{leb}
 use borrow.Author.Tests.{leb-true}
 use native.Mathlib.Omega.{arith}
-use Rattle.lists.specs.Lists.{every, part}
+use Rattle.lists.specs.Lists.{every}
 use Rattle.lists.specs.Laws.{both}
-use Rattle.packing.specs.Packing.{startOf, lengthOf}
-use Rattle.page.specs.Reading.{reading}
+use Rattle.packing.specs.Packing.{startOf}
 use Rattle.kept_list.specs.Entry.{better}
 use Rattle.kept_list.specs.Keep.{inOrder}
 use Rattle.kept_list.specs.Lent.{Lent, entries, places}
 use Rattle.kept_list.specs.Laid.{length-beside}
 use Rattle.kept_list.specs.Push.{isNumber, sound, wellKept}
-use Rattle.evaluating.specs.declared.RangeReading.the-variants.{ReachesPast, Score}
-use Rattle.evaluating.specs.Ranges.{ofPage, rangeReading}
+use Rattle.evaluating.specs.declared.RangeReading.the-variants.{Score}
 use Rattle.probing.specs.Probed.{Terms, readIn}
+use Rattle.search.specs.Dots.{score-is-dot}
 
 pub kept-sound : (k : ℕ) (m : Lent) → wellKept k m ≡ true → (inOrder better (entries m) ≡ true) × (length (entries m) ≤ k)
 unfolding wellKept
@@ -32,10 +31,4 @@ kept-sound k m w =
 
 -- a range that has a score ends within the terms
 pub score-ends : (t : Terms) (p : ℕ) (x : Float) → readIn t p ≡ Score x → startOf p ≤ length (t .components)
-unfolding rangeReading
-score-ends t p x h = at (leb (startOf p + lengthOf p) (length (t .components))) refl h
-  where
-    at : (b : Bool) → leb (startOf p + lengthOf p) (length (t .components)) ≡ b
-        → cond b (ofPage (reading (t .queryComponents) (t .queryValues) (part (startOf p) (startOf p + lengthOf p - startOf p) (t .components)) (part (startOf p) (startOf p + lengthOf p - startOf p) (t .values)))) ReachesPast ≡ Score x → startOf p ≤ length (t .components)
-    at true e h = let z = leb-true (startOf p + lengthOf p) (length (t .components)) e in omega arith
-    at false e h = let z : _≡_ {A = ℕ} 0 1 = cc in omega arith
+score-ends t p x h = let w = score-is-dot t p x h .within in omega arith

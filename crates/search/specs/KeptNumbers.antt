@@ -1,23 +1,22 @@
 -- No score that an accepted search keeps is a NaN, whatever the slices hold: those it began with are numbers (12), and the page of each that
 -- was evaluated is in its bounds (14), as the query is (10). Assumes nothing.
-use Prim.Native.Nat.{ℕ, _+_, _-_}
+use Prim.Native.Nat.{ℕ}
 use native.Mathlib.Omega.{arith}
-use mathlib.Core.Path.{_≡_, refl, ap, _∙_, subst}
+use mathlib.Core.Path.{_≡_, refl, sym, ap, _∙_, subst}
 use mathlib.Core.Bool.{Bool, true, false, not, _&&_, cond}
 use mathlib.Core.List.{List, [], _∷_}
-use lib.ListN.{length, getD, set}
-use lib.Dec.{leb, eqb}
+use lib.ListN.{getD, set}
+use lib.Dec.{eqb}
 use lib.Ieee.{Float, isNan}
 use borrow.Author.Tests.{not-false}
-use Rattle.lists.specs.Lists.{every, part}
+use Rattle.lists.specs.Lists.{every}
 use Rattle.lists.specs.Laws.{both}
 use Rattle.refusal.specs.declared.Refusal.{Refusal}
 use Rattle.refusal.specs.declared.Refusal.the-variants.{PastTheTerms, WrongTerms}
 use Rattle.refusal.specs.declared.Verdict.the-variants.{Accepted}
 use Rattle.refusal.specs.First.{firstOf, Faultless, faultless}
 use Rattle.float32.specs.Tests.{is-true}
-use Rattle.packing.specs.Packing.{startOf, lengthOf}
-use Rattle.documents.specs.Documents.{paired, dot}
+use Rattle.documents.specs.Documents.{dot}
 use Rattle.documents.specs.Checks.{slicesHold}
 use Rattle.kept_list.specs.declared.Scored.{Scored}
 use Rattle.kept_list.specs.Entry.{better, scored}
@@ -27,17 +26,15 @@ use Rattle.kept_list.specs.Laid.{entries-written}
 use Rattle.kept_list.specs.Push.{isNumber, wellKept}
 use Rattle.kept_list.specs.Told.{numbers-kept}
 use Rattle.kept_list.specs.WellKept.{well-kept}
-use Rattle.page.specs.Reading.{reading}
-use Rattle.page.specs.declared.Reading.the-variants as page
 use Rattle.evaluating.specs.declared.RangeReading.{RangeReading}
 use Rattle.evaluating.specs.declared.RangeReading.the-variants.{ReachesPast, Breaks, Score}
-use Rattle.evaluating.specs.Ranges.{ofPage, rangeReading}
 use Rattle.probing.specs.Probing.{Given, State, passed, stopped, found, outcome, ofReading, packedAt, startAt, Reached, goesOn, stopsAt, left}
 use Rattle.probing.specs.Probed.{Terms, Lends, readIn, bytesOf, laid, opened}
 use Rattle.search.specs.Searched.{Question, givenFor, swept, tests}
 use Rattle.search.specs.Trace.{Event, at, turns, entriesOf, eventsOf}
 use Rattle.search.specs.Told.{sweep-told}
 use Rattle.search.specs.Once.{AllRight, all-right}
+use Rattle.search.specs.Dots.{queryTerms, inRange, rangeTerms, score-is-dot}
 use Rattle.search.specs.Scores.{page-score-number}
 
 pub both-true : (a b : Bool) → a ≡ true → b ≡ true → (a && b) ≡ true
@@ -76,19 +73,9 @@ all-kept k kept (e ∷ es) h n = let p = both (isNumber e) (every isNumber es) n
 
 -- a range that has a score has a number
 range-number : (t : Terms) → slicesHold (t .queryComponents) (t .queryValues) ≡ true → (p : ℕ) (x : Float) → readIn t p ≡ Score x → not (isNan x) ≡ true
-unfolding rangeReading reading
-range-number t h p x e = at (leb (startOf p + lengthOf p) (length (t .components))) (slicesHold (terms (t .components)) (terms (t .values))) refl e
-  where
-    terms : {A : Type 0} → List A → List A
-    terms l = part (startOf p) (startOf p + lengthOf p - startOf p) l
-
-    score : Float
-    score = dot (paired (t .queryComponents) (t .queryValues)) (paired (terms (t .components)) (terms (t .values)))
-
-    at : (b c : Bool) → slicesHold (terms (t .components)) (terms (t .values)) ≡ c → cond b (ofPage (cond c (page.Score score) page.Breaks)) ReachesPast ≡ Score x → not (isNan x) ≡ true
-    at false c k e = let z : _≡_ {A = ℕ} 0 1 = cc in absurd (omega arith)
-    at true false k e = let z : _≡_ {A = ℕ} 0 1 = cc in absurd (omega arith)
-    at true true k e = let z : score ≡ x = cc in subst (λ y. not (isNan y) ≡ true) z (is-true (not (isNan score)) (page-score-number (t .queryComponents) (t .queryValues) (terms (t .components)) (terms (t .values)) h k))
+range-number t h p x e =
+    let d = score-is-dot t p x e in
+    subst (λ y. not (isNan y) ≡ true) (sym (d .is)) (is-true (not (isNan (dot (queryTerms t) (rangeTerms t p)))) (page-score-number (t .queryComponents) (t .queryValues) (inRange p (t .components)) (inRange p (t .values)) h (d .holds)))
 
 module _ (q : Question) (l : Lends) (b : Bool) (accepted : firstOf (tests q l b) ≡ Accepted) where
   faults : Faultless (tests q l b)

@@ -8,6 +8,7 @@ pub mod InOrder
 pub mod Once
 pub mod Fates
 pub mod Fated
+pub mod Dots
 pub mod Accepted
 pub mod Promises
 pub mod Scores

@@ -30,7 +30,8 @@ use Rattle.probing.specs.declared.Answer.the-variants.{Refused, Stopped, Found}
 use Rattle.probing.specs.Probed.{Lends, Left, laid}
 use Rattle.search.specs.Order.{byScore}
 use Rattle.search.specs.Searched.{Question, blockCount, scoresFor, swept, room, tests, ifAccepted, scorePlaces, Searched, leaves, searched, ifAcceptedInOrder, orderPlaces, SearchedInOrder, leavesInOrder, searchedInOrder}
-use Rattle.search.specs.Scores.{queryOf, block-score-number}
+use Rattle.search.specs.Dots.{queryTerms}
+use Rattle.search.specs.Scores.{block-score-number}
 use Rattle.search.specs.KeptNumbers.{both-true, kept-numbers}
 
 abbrev pub numbers : List Float → Bool
@@ -64,7 +65,7 @@ pub record Slices (q : Question) : Type 0 where
   pub minimums : F32s (q .layout .minimums)
   pub steps : F32s (q .layout .steps)
 
-typed-by : (q : Question) → Slices q → Typed (q .layout) (queryOf q)
+typed-by : (q : Question) → Slices q → Typed (q .layout) (queryTerms (q .terms))
 typed-by q s = record {
   minimums = each-f32 (q .layout .minimums) (s .minimums);
   steps = each-f32 (q .layout .steps) (s .steps);
@@ -87,7 +88,7 @@ module _ (q : Question) (l : Lends) (b : Bool) (accepted : firstOf (tests q l b)
   scores-many : length (scoresFor q) ≡ blockCount q
   scores-many =
       let e = parts (length (q .postings)) (q .offsets) (q .layout) (not-false (wellFormed (length (q .postings)) (q .offsets) (q .layout)) (faults .1 .1 .1 .0)) .as-many in
-      scores-length (q .layout) (queryOf q) ∙ omega arith
+      scores-length (q .layout) (queryTerms (q .terms)) ∙ omega arith
 
   scores-numbers : Slices q → (xs : List Float) → blockCount q ≤ length xs → numbers (take (blockCount q) (putIn (scoresFor q) xs)) ≡ true
   scores-numbers s xs h =

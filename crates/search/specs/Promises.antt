@@ -1,40 +1,40 @@
 -- What a search promises, told by its story, with no mention of how it goes about it. Assumes nothing.
 use Prim.Native.Nat.{ℕ, _+_, _≤_, _<_}
 use mathlib.Core.Path.{_≡_, refl, sym, ap, _∙_, subst}
-use mathlib.Core.Bool.{Bool, true, false, not, _&&_, _||_, cond, true≢false}
-use mathlib.Core.List.{List, [], _∷_, _++_, map, List·Permᴰ}
+use mathlib.Core.Bool.{Bool, true, false, _&&_, cond}
+use mathlib.Core.List.{List, [], _∷_, _++_, map, append-assoc}
 use lib.ListN.{length, getD, take}
 use lib.Seq.{length-take-le}
-use lib.Ieee.{Float, nan, binary32, lt, mul}
-use lib.Dec.{eqb, leb, ltb}
-use borrow.Author.Tests.{eqb-true, eq-eqb, leb-false, ltb-true, le-leb, not-false}
+use lib.Ieee.{nan, binary32, lt, mul}
+use lib.Dec.{eqb, ltb}
+use borrow.Author.Tests.{eqb-true, eq-eqb, ltb-true, not-false}
 use native.Mathlib.Omega.{arith}
-use Rattle.lists.specs.Lists.{from, among}
-use Rattle.lists.specs.Sorted.{InOrder, sort-in-order, sort-permutes}
+use Rattle.lists.specs.Lists.{EachOf, among}
 use Rattle.lists.specs.Laws.{both}
 use Rattle.refusal.specs.declared.Verdict.the-variants.{Accepted}
 use Rattle.refusal.specs.First.{firstOf, Faultless, faultless}
-use Rattle.float32.specs.Order.{atMost}
 use Rattle.kept_list.specs.Lent.{entries, places}
 use Rattle.kept_list.specs.Laid.{entries-written}
 use Rattle.kept_list.specs.Push.{wellKept}
 use Rattle.probing.specs.Probed.{Lends, bytesOf, restOf, laid, opened}
-use Rattle.search.specs.Order.{scoreAt, noLater, byScore}
 use Rattle.search.specs.Searched.{Question, givenFor, swept, room, tests}
 use mathlib.Core.Logic.{_↔_, _⊎_, inl, inr}
 use Rattle.refusal.specs.declared.Refusal.{Refusal}
 use Rattle.kept_list.specs.declared.Scored.{Scored}
 use Rattle.kept_list.specs.Keep.{kBest, inOrder}
-use Rattle.kept_list.specs.Best.{k-best}
+use Rattle.kept_list.specs.Best.{k-best, sorted-kBest}
+use Rattle.kept_list.specs.Worst.{noHigher}
 use Rattle.kept_list.specs.Entry.{better, better-order}
-use Rattle.probing.specs.Probing.{Place, packedAt, worst, Given, State, Outcome, passed, stopped, outcome, startAt, Reached, goesOn, stopsAt, skips, positions, sweep, left}
+use Rattle.probing.specs.Probing.{Place, packedAt, worst, Given, State, Outcome, passed, stopped, found, outcome, startAt, Reached, goesOn, stopsAt, skips, positions, sweep, left}
 use Rattle.search.specs.Trace.{Event, at, Turn, skippedBlock, probedBlock, turns, entriesOf, startsOf, placesOf, positionOf, blockOf, eventsOf, skippedIn, distinct, marked, after}
-use Rattle.search.specs.Told.{sweep-told, marked-events}
+use Rattle.probing.specs.Worst.{worst-lowest, worst-never-falls}
+use Rattle.search.specs.Told.{entries-append, events-append, sweep-told, marked-events}
 use Rattle.search.specs.Moments.{passed-iff, event-right, turn-right}
 use Rattle.search.specs.InOrder.{events-in-order, events-all, turns-in-order, turns-all, stopsIn, no-stop-before, no-stop-on, stop-is-last}
 use Rattle.search.specs.Once.{HasBytes, all-right, fresh, all-different, places-differ, marked-at}
 use Rattle.search.specs.Fates.{Posting, Evaluated, InSkipped, VisitedBefore, StoppedBefore}
 use Rattle.search.specs.Fated.{Fate, isEvaluated, isSkipped, isPassed, isStopped, fate, visited-since}
+use Rattle.search.specs.Dots.{DotOf, Stop, Gives, outcome-gives}
 use Rattle.search.specs.Accepted.{kept-sound, score-ends}
 
 pub record Promises (g : Given) (bs : List ℕ) (s : State) (r : Reached) : Type 0 where
@@ -46,6 +46,10 @@ pub record Promises (g : Given) (bs : List ℕ) (s : State) (r : Reached) : Type
   -- a block is skipped exactly when k are kept at its turn and its score < factor x worst
   pub skipped-when : (p : List Turn) (b : ℕ) (q : List Turn) → story ≡ p ++ (skippedBlock b ∷ q) → skips g (kBest better (g .k) (s .kept ++ entriesOf (eventsOf p))) b ≡ true
   pub probed-when : (p : List Turn) (b : ℕ) (es : List Event) (q : List Turn) → story ≡ p ++ (probedBlock b es ∷ q) → skips g (kBest better (g .k) (s .kept ++ entriesOf (eventsOf p))) b ≡ false
+  -- the worst kept score: at each moment no kept score stands below it in the total order, and once k are kept it never falls
+  pub worst-is-lowest : (p q : List Turn) → story ≡ p ++ q → EachOf (λ e. noHigher (worst (kBest better (g .k) (s .kept ++ entriesOf (eventsOf p)))) (e .score) ≡ true) (kBest better (g .k) (s .kept ++ entriesOf (eventsOf p)))
+  pub worst-stays : (p m q : List Turn) → story ≡ p ++ (m ++ q) → length (kBest better (g .k) (s .kept ++ entriesOf (eventsOf p))) ≡ g .k
+      → noHigher (worst (kBest better (g .k) (s .kept ++ entriesOf (eventsOf p)))) (worst (kBest better (g .k) (s .kept ++ entriesOf (eventsOf (p ++ m))))) ≡ true
   -- the postings of a probed block are reached one by one in order, all of them if nothing stops the search
   pub reached-in-order : (p : List Turn) (b : ℕ) (es : List Event) (q : List Turn) → story ≡ p ++ (probedBlock b es ∷ q) → map positionOf es ≡ take (length es) (positions g b)
   pub reached-all : (p : List Turn) (b : ℕ) (es : List Event) (q : List Turn) → story ≡ p ++ (probedBlock b es ∷ q) → stopsIn es ≡ false → map positionOf es ≡ positions g b
@@ -91,6 +95,14 @@ module _ (g : Given) (bs : List ℕ) (s : State) (sorted : inOrder better (s .ke
       subst (λ l. outcome g l i ≡ o) (sym (marked-events g (s .visits) (eventsOf p) x))
       (event-right g (positions g b) ((after g s p) .visits) x (at i o) y (sym (turn-right g bs s p (probedBlock b (x ++ (at i o ∷ y))) q e .1)))
 
+  never-falls-after : (p m : List Turn) → length (kBest better (g .k) (s .kept ++ entriesOf (eventsOf p))) ≡ g .k
+      → noHigher (worst (kBest better (g .k) (s .kept ++ entriesOf (eventsOf p)))) (worst (kBest better (g .k) (s .kept ++ entriesOf (eventsOf (p ++ m))))) ≡ true
+  never-falls-after p m h =
+      let es = s .kept ++ entriesOf (eventsOf p) in
+      let e : s .kept ++ entriesOf (eventsOf (p ++ m)) ≡ es ++ entriesOf (eventsOf m) =
+      ap (λ l. s .kept ++ l) (ap entriesOf (events-append p m) ∙ entries-append (eventsOf p) (eventsOf m)) ∙ sym (append-assoc (s .kept) (entriesOf (eventsOf p)) (entriesOf (eventsOf m))) in
+      rw e (worst-never-falls (g .k) es (entriesOf (eventsOf m)) h)
+
   fate-of : (p : Posting g bs) → Fate (turns g bs s) (sweep g bs s) (p .blocksBefore) (p .block) (p .placesBefore) (p .place)
   fate-of p =
       subst (λ cs. Fate (turns g cs s) (sweep g cs s) (p .blocksBefore) (p .block) (p .placesBefore) (p .place)) (sym (p .in-list))
@@ -117,6 +129,8 @@ module _ (g : Given) (bs : List ℕ) (s : State) (sorted : inOrder better (s .ke
     all-blocks = turns-all g bs s;
     skipped-when = λ p b q e. subst (λ l. skips g l b ≡ true) (kept-after p) (turn-right g bs s p (skippedBlock b) q e);
     probed-when = λ p b es q e. subst (λ l. skips g l b ≡ false) (kept-after p) (turn-right g bs s p (probedBlock b es) q e .0);
+    worst-is-lowest = λ p q e. let es = s .kept ++ entriesOf (eventsOf p) in worst-lowest (kBest better (g .k) es) (sorted-kBest better better-order (g .k) es);
+    worst-stays = λ p m q e. never-falls-after p m;
     reached-in-order = λ p b es q e. subst (λ l. map positionOf l ≡ take (length l) (positions g b)) (sym (turn-right g bs s p (probedBlock b es) q e .1)) (events-in-order g (positions g b) ((after g s p) .visits));
     reached-all = λ p b es q e h. let k = turn-right g bs s p (probedBlock b es) q e .1 in ap (map positionOf) k ∙ events-all g (positions g b) ((after g s p) .visits) (ap stopsIn (sym k) ∙ h);
     goes-on = λ p b es u q e. no-stop-before g bs s p (probedBlock b es) u q e;
@@ -134,7 +148,16 @@ module _ (g : Given) (bs : List ℕ) (s : State) (sorted : inOrder better (s .ke
     stops-last = λ n i t e. stop-is-last g bs s t n i e;
   }
 
--- ---- an accepted search keeps all of this, in whatever order its blocks have their turns
+-- ---- what a search promises besides, of its question
+pub record SearchPromises (q : Question) (l : Lends) (blocks : List ℕ) (r : Reached) : Type 0 where
+  pub sweeps : Promises (givenFor q) blocks (opened (q .terms) l) r
+  -- the entry of an evaluated posting is its packed number with the dot product of its range's terms with the query
+  pub evaluates : (p : List Turn) (b : ℕ) (x : List Event) (i : Place) (e : Scored) (y : List Event) (u : List Turn) → sweeps .story ≡ p ++ (probedBlock b (x ++ (at i (found e) ∷ y)) ∷ u)
+      → (e .packed ≡ getD (q .postings) i 0) × DotOf (q .terms) (getD (q .postings) i 0) (e .score)
+  -- the range of a posting that stops it reaches past the documents' terms (13), or its terms do not hold (14)
+  pub stops-for : (n : Refusal) (i : Place) (t : State) → r ≡ stopsAt n i t → Stop (q .terms) (getD (q .postings) i 0) n
+
+-- an accepted search keeps all of this, in whatever order its blocks have their turns
 module _ (q : Question) (l : Lends) (b : Bool) (accepted : firstOf (tests q l b) ≡ Accepted) where
   faults : Faultless (tests q l b)
   faults = faultless (tests q l b) accepted
@@ -150,12 +173,25 @@ module _ (q : Question) (l : Lends) (b : Bool) (accepted : firstOf (tests q l b)
       let m : length (q .terms .components) + 1 ≤ length (l .visits) = omega arith in
       omega (arith, length-take-le (length (q .terms .components) + 1) (l .visits) m)
 
-  pub search-promises : (blocks : List ℕ) → Promises (givenFor q) blocks (opened (q .terms) l) (swept q blocks l)
-  search-promises blocks = sweep-promises (givenFor q) blocks (opened (q .terms) l) (kept-well .0) (kept-well .1) has-bytes
+  pub search-promises : (blocks : List ℕ) → SearchPromises q l blocks (swept q blocks l)
+  search-promises blocks = record {
+    sweeps = sweeps;
+    evaluates = λ p b x i e. meant p b x i (found e);
+    stops-for = λ n i t e. let w = sweeps .stops-last n i t e in meant (w .0) (w .1) (w .2) i (stopped n) [] [] (w .3);
+  }
+    where
+      sweeps : Promises (givenFor q) blocks (opened (q .terms) l) (swept q blocks l)
+      sweeps = sweep-promises (givenFor q) blocks (opened (q .terms) l) (kept-well .0) (kept-well .1) has-bytes
+
+      meant : (p : List Turn) (b : ℕ) (x : List Event) (i : Place) (o : Outcome) (y : List Event) (u : List Turn) → sweeps .story ≡ p ++ (probedBlock b (x ++ (at i o ∷ y)) ∷ u)
+          → Gives (q .terms) (getD (q .postings) i 0) o
+      meant p b x i o y u h =
+          subst (Gives (q .terms) (getD (q .postings) i 0)) (sweeps .gives p b x i o y u h)
+          (outcome-gives (q .terms) (marked (bytesOf (q .terms) (l .visits)) (startsOf (givenFor q) (eventsOf p ++ x))) (getD (q .postings) i 0))
 
   -- the kept list where it lies at exit: the k best of the entries it began with and of all evaluated
-  pub kept-at-exit : (blocks : List ℕ) → entries ((laid (q .terms) l (swept q blocks l)) .lent .kept) ≡ kBest better (q .k) (entries (l .kept) ++ entriesOf (eventsOf (search-promises blocks .story)))
-  kept-at-exit blocks = laid-kept (swept q blocks l) ∙ search-promises blocks .keeps-best
+  pub kept-at-exit : (blocks : List ℕ) → entries ((laid (q .terms) l (swept q blocks l)) .lent .kept) ≡ kBest better (q .k) (entries (l .kept) ++ entriesOf (eventsOf (search-promises blocks .sweeps .story)))
+  kept-at-exit blocks = laid-kept (swept q blocks l) ∙ search-promises blocks .sweeps .keeps-best
     where
       laid-kept : (r : Reached) → entries ((laid (q .terms) l r) .lent .kept) ≡ (left r) .kept
       laid-kept (goesOn s) = entries-written (s .kept) (l .kept)
@@ -168,22 +204,3 @@ module _ (q : Question) (l : Lends) (b : Bool) (accepted : firstOf (tests q l b)
       laid-visits : (r : Reached) → (laid (q .terms) l r) .lent .visits ≡ (left r) .visits ++ restOf (q .terms) (l .visits)
       laid-visits (goesOn s) = refl
       laid-visits (stopsAt r i s) = refl
-
--- ---- the probing order of a sorted search
-pub order-permutes : (xs : List Float) → List·Permᴰ (byScore xs) (from 0 (length xs))
-unfolding byScore
-order-permutes xs = sort-permutes (noLater xs) (from 0 (length xs))
-
--- one of two blocks may go first
-either : (xs : List Float) (a b : ℕ) → noLater xs a b ≡ false → noLater xs b a ≡ true
-either xs a b h = go (atMost (scoreAt xs a) (scoreAt xs b)) (atMost (scoreAt xs b) (scoreAt xs a)) (leb a b) refl h
-  where
-    go : (i j k : Bool) → leb a b ≡ k → (not i || (j && k)) ≡ false → (not j || (i && leb b a)) ≡ true
-    go false j k e h = absurd (true≢false h)
-    go true false k e h = refl
-    go true true true e h = absurd (true≢false h)
-    go true true false e h = le-leb b a (omega (arith, leb-false a b e))
-
-pub order-sorted : (xs : List Float) → InOrder (noLater xs) (byScore xs)
-unfolding byScore
-order-sorted xs = sort-in-order (noLater xs) (either xs) (from 0 (length xs))

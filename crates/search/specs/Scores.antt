@@ -29,9 +29,7 @@ use Rattle.quantized_summary.specs.Promises.{Typed, parts, score-no-nan}
 use Rattle.probing.specs.Probed.{Lends}
 use Rattle.search.specs.Order.{scoreAt}
 use Rattle.search.specs.Searched.{Question, blockCount, scoresFor, tests}
-
-abbrev pub queryOf : Question → List Term
-queryOf q = paired (q .terms .queryComponents) (q .terms .queryValues)
+use Rattle.search.specs.Dots.{queryTerms}
 
 slices-bound : (cs : List ℕ) (vs : List Float) → slicesHold cs vs ≡ true → every (λ t. inBound (t .value)) (paired cs vs) ≡ true
 unfolding slicesHold termsHold
@@ -40,17 +38,17 @@ slices-bound cs vs h =
     (both (eqb (length cs) (length vs)) (termsHold (paired cs vs)) h .1) .1
 
 -- ---- the score of a block
-module _ (q : Question) (l : Lends) (b : Bool) (accepted : firstOf (tests q l b) ≡ Accepted) (typed : Typed (q .layout) (queryOf q)) (s : ℕ) (below : s < blockCount q) where
+module _ (q : Question) (l : Lends) (b : Bool) (accepted : firstOf (tests q l b) ≡ Accepted) (typed : Typed (q .layout) (queryTerms (q .terms))) (s : ℕ) (below : s < blockCount q) where
   own : wellFormed (length (q .postings)) (q .offsets) (q .layout) ≡ true
   own = not-false (wellFormed (length (q .postings)) (q .offsets) (q .layout)) (faultless (tests q l b) accepted .1 .1 .1 .0)
 
-  pub block-score : scoreAt (scoresFor q) s ≡ scoreOf (q .layout) (queryOf q) s
-  block-score = let e = parts (length (q .postings)) (q .offsets) (q .layout) own .as-many in scores-at (q .layout) (queryOf q) s (omega arith)
+  pub block-score : scoreAt (scoresFor q) s ≡ scoreOf (q .layout) (queryTerms (q .terms)) s
+  block-score = let e = parts (length (q .postings)) (q .offsets) (q .layout) own .as-many in scores-at (q .layout) (queryTerms (q .terms)) s (omega arith)
 
   pub block-score-number : T (not (isNan (scoreAt (scoresFor q) s)))
   block-score-number =
       rw block-score
-      (score-no-nan (length (q .postings)) (q .offsets) (q .layout) (queryOf q) own
+      (score-no-nan (length (q .postings)) (q .offsets) (q .layout) (queryTerms (q .terms)) own
       (slices-bound (q .terms .queryComponents) (q .terms .queryValues) (not-false (slicesHold (q .terms .queryComponents) (q .terms .queryValues)) (faultless (tests q l b) accepted .1 .0))) typed s below)
 
 -- ---- the score of a page: its values and the query's are in their bound, so each product is at most 2 ^ 64

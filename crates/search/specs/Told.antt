@@ -3,8 +3,8 @@ use Prim.Native.Nat.{ℕ, suc, _+_}
 use native.Mathlib.Omega.{arith}
 use mathlib.Core.Path.{_≡_, refl, sym, ap, _∙_}
 use mathlib.Core.Bool.{Bool, true, false, cond}
-use mathlib.Core.List.{List, [], _∷_, _++_, nil≢cons}
-use lib.ListN.{length, set, length-append}
+use mathlib.Core.List.{List, [], _∷_, _++_, append-assoc, nil≢cons}
+use lib.ListN.{length, set, length-append, length-set}
 use Rattle.kept_list.specs.declared.Scored.{Scored}
 use Rattle.kept_list.specs.Keep.{keep, keepAll}
 use Rattle.kept_list.specs.Entry.{better}
@@ -24,11 +24,20 @@ marked-append : (v ns ms : List ℕ) → marked v (ns ++ ms) ≡ marked (marked 
 marked-append v [] ms = refl
 marked-append v (n ∷ ns) ms = marked-append (set v n 1) ns ms
 
-entries-append : (es fs : List Event) → entriesOf (es ++ fs) ≡ entriesOf es ++ entriesOf fs
+pub length-marked : (v ns : List ℕ) → length (marked v ns) ≡ length v
+length-marked v [] = refl
+length-marked v (n ∷ ns) = length-marked (set v n 1) ns ∙ length-set v n 1
+
+pub entries-append : (es fs : List Event) → entriesOf (es ++ fs) ≡ entriesOf es ++ entriesOf fs
 entries-append [] fs = refl
 entries-append (at i passed ∷ es) fs = entries-append es fs
 entries-append (at i (stopped r) ∷ es) fs = entries-append es fs
 entries-append (at i (found e) ∷ es) fs = ap (λ l. e ∷ l) (entries-append es fs)
+
+pub events-append : (ts us : List Turn) → eventsOf (ts ++ us) ≡ eventsOf ts ++ eventsOf us
+events-append [] us = refl
+events-append (skippedBlock b ∷ ts) us = events-append ts us
+events-append (probedBlock b es ∷ ts) us = ap (λ l. es ++ l) (events-append ts us) ∙ sym (append-assoc es (eventsOf ts) (eventsOf us))
 
 pub starts-append : (g : Given) (es fs : List Event) → startsOf g (es ++ fs) ≡ startsOf g es ++ startsOf g fs
 starts-append g [] fs = refl

@@ -8,6 +8,7 @@ use Rattle.refusal.specs.declared.Refusal.the-variants.{NothingToKeep, PastTheT
 use Rattle.float32.specs.Bound.{inBound}
 use Rattle.float32.specs.Key.{keyOf}
 use Rattle.float32.specs.Order.{atMost}
+use Rattle.blocking.specs.Limits.{listLimit, blockLimit}
 use Rattle.packing.specs.Packing.{lengthLimit, packOf, startOf, lengthOf}
 use Rattle.documents.specs.Documents.{paired, dot}
 use Rattle.documents.specs.Checks.{termsHold, slicesHold}
@@ -15,7 +16,7 @@ use Rattle.kept_list.specs.Entry.{better}
 use Rattle.kept_list.specs.Lent.{lent}
 use Rattle.kept_list.specs.Push.{wellKept}
 use Rattle.quantizing.specs.Quantizing.{stepAllowed}
-use Rattle.quantized_summary.specs.Layout.{arrays, entries, entriesAt}
+use Rattle.quantized_summary.specs.Layout.{Layout, arrays, entries, entriesAt}
 use Rattle.quantized_summary.specs.Scores.{scoreOf, scoresOf}
 use Rattle.quantized_summary.specs.WellFormed.{blocksHold, lengthsHold, offsetsHold, idsHold, boundsHold, wellFormed}
 use Rattle.page.specs.Reading.{reading}
@@ -25,75 +26,89 @@ use Rattle.probing.specs.Probed.{terms, Lends, lends, left}
 use Rattle.search.specs.Order.{byScore}
 use Rattle.search.specs.Searched.{Question, question, leaves, searched, leavesInOrder, searchedInOrder}
 
-abbrev f : ℕ → Float
+abbrev pub f : ℕ → Float
 f n = ofBits binary32 n
 
-abbrev zero : Float
+abbrev pub zero : Float
 zero = f 0
 
-abbrev half : Float
+abbrev pub half : Float
 half = f 0x3f000000
 
-abbrev one : Float
+abbrev pub one : Float
 one = f 0x3f800000
 
-abbrev two : Float
+abbrev pub two : Float
 two = f 0x40000000
 
-abbrev three : Float
+abbrev pub three : Float
 three = f 0x40400000
 
-abbrev four : Float
+abbrev pub four : Float
 four = f 0x40800000
 
-abbrev five : Float
+abbrev pub five : Float
 five = f 0x40a00000
 
-abbrev ten : Float
+abbrev pub ten : Float
 ten = f 0x41200000
 
--- six terms: the page at 0 scores 1, an empty page at 2 shares its start with the one that scores 3, the page at 3 scores 0, and the page at 4 breaks its rules
-abbrev askedBy : Float → ℕ → List ℕ → List ℕ → Question
-askedBy factor k postings offsets =
-    question k factor (terms (1 ∷ []) (one ∷ []) (1 ∷ 2 ∷ 1 ∷ 3 ∷ 5 ∷ 5 ∷ []) (one ∷ one ∷ three ∷ one ∷ one ∷ one ∷ [])) postings offsets
-    (arrays (1 ∷ []) (0 ∷ 2 ∷ []) (0 ∷ 1 ∷ []) (5 ∷ 4 ∷ []) (zero ∷ zero ∷ []) (one ∷ one ∷ []))
+abbrev pub hundred : Float
+hundred = f 0x42c80000
 
-abbrev asked : ℕ → List ℕ → List ℕ → Question
+-- six terms: the page at 0 scores 1, an empty page at 2 shares its start with the one that scores 3, the page at 3 scores 0, and the page at 4 breaks its rules
+abbrev pub sixComponents : List ℕ
+sixComponents = 1 ∷ 2 ∷ 1 ∷ 3 ∷ 5 ∷ 5 ∷ []
+
+abbrev pub sixValues : List Float
+sixValues = one ∷ one ∷ three ∷ one ∷ one ∷ one ∷ []
+
+-- the summaries of two blocks, whose scores are their codes
+abbrev pub twoBlocks : ℕ → ℕ → Layout
+twoBlocks a b = arrays (1 ∷ []) (0 ∷ 2 ∷ []) (0 ∷ 1 ∷ []) (a ∷ b ∷ []) (zero ∷ zero ∷ []) (one ∷ one ∷ [])
+
+abbrev pub askedOver : Layout → Float → ℕ → List ℕ → List ℕ → Question
+askedOver layout factor k postings offsets = question k factor (terms (1 ∷ []) (one ∷ []) sixComponents sixValues) postings offsets layout
+
+abbrev pub askedBy : Float → ℕ → List ℕ → List ℕ → Question
+askedBy = askedOver (twoBlocks 5 4)
+
+abbrev pub asked : ℕ → List ℕ → List ℕ → Question
 asked = askedBy half
 
 -- the pages
-abbrev first : ℕ
+abbrev pub first : ℕ
 first = packOf 0 2
 
-abbrev empty : ℕ
+abbrev pub empty : ℕ
 empty = packOf 2 0
 
-abbrev second : ℕ
+abbrev pub second : ℕ
 second = packOf 2 1
 
-abbrev third : ℕ
+abbrev pub third : ℕ
 third = packOf 3 1
 
-abbrev broken : ℕ
+abbrev pub broken : ℕ
 broken = packOf 4 2
 
-abbrev past : ℕ
+abbrev pub past : ℕ
 past = packOf 5 2
 
-abbrev holding : ℕ → List ℕ → List Float → List ℕ → Lends
+abbrev pub holding : ℕ → List ℕ → List Float → List ℕ → Lends
 holding n ps xs v = lends (lent n ps xs) v
 
-abbrev fresh : List ℕ
+abbrev pub fresh : List ℕ
 fresh = 0 ∷ 0 ∷ 0 ∷ 0 ∷ 0 ∷ 0 ∷ 0 ∷ []
 
-abbrev dots : List Float
+abbrev pub dots : List Float
 dots = ten ∷ ten ∷ ten ∷ []
 
 -- the scores of the two blocks, 5 and 4; what lies past them is unchanged
-abbrev scored : List Float
+abbrev pub scored : List Float
 scored = five ∷ four ∷ ten ∷ []
 
-abbrev longer : List ℕ
+abbrev pub longer : List ℕ
 longer = 0 ∷ 0 ∷ 0 ∷ 0 ∷ 0 ∷ 0 ∷ 0 ∷ 1 ∷ 1 ∷ 1 ∷ []
 
 pub record Searches : Type 0 where
@@ -124,17 +139,22 @@ pub record Searches : Type 0 where
   -- 13 at a start that has no byte
   pub no-byte : searched (asked 2 (packOf 9 0 ∷ []) (0 ∷ 1 ∷ 1 ∷ [])) (holding 0 (7 ∷ 8 ∷ []) (ten ∷ ten ∷ []) fresh) dots
       ≡ leaves (left (Stopped PastTheTerms 0) (holding 0 (7 ∷ 8 ∷ []) (ten ∷ ten ∷ []) fresh)) scored
-  -- a longer buffer gives a start past the terms no byte
-  pub byte-past-the-terms : searched (asked 2 (packOf 9 0 ∷ []) (0 ∷ 1 ∷ 1 ∷ [])) (holding 0 (7 ∷ 8 ∷ []) (ten ∷ ten ∷ []) longer) dots
+  -- the first start past the term count: a longer buffer, in which its byte is that of a visit, gives it none
+  pub byte-past-the-terms : searched (asked 2 (packOf 7 0 ∷ []) (0 ∷ 1 ∷ 1 ∷ [])) (holding 0 (7 ∷ 8 ∷ []) (ten ∷ ten ∷ []) longer) dots
       ≡ leaves (left (Stopped PastTheTerms 0) (holding 0 (7 ∷ 8 ∷ []) (ten ∷ ten ∷ []) longer)) scored
   -- a page that breaks its rules is not looked at where its start was visited
   pub visited-broken : searched (asked 2 (broken ∷ []) (0 ∷ 1 ∷ 1 ∷ [])) (holding 0 (7 ∷ 8 ∷ []) (ten ∷ ten ∷ []) (0 ∷ 0 ∷ 0 ∷ 0 ∷ 1 ∷ 0 ∷ 0 ∷ [])) dots
       ≡ leaves (left (Found 0 0 0) (holding 0 (7 ∷ 8 ∷ []) (ten ∷ ten ∷ []) (0 ∷ 0 ∷ 0 ∷ 0 ∷ 1 ∷ 0 ∷ 0 ∷ []))) scored
   -- with k 0 nothing changes
   pub nothing-to-keep : searched (asked 0 (first ∷ []) (0 ∷ 1 ∷ 1 ∷ [])) (holding 0 (7 ∷ []) (ten ∷ []) fresh) dots ≡ leaves (left (Refused NothingToKeep) (holding 0 (7 ∷ []) (ten ∷ []) fresh)) dots
-  -- greater score first: block 0, whose score is 5, has its turn before block 1
-  pub by-score : searchedInOrder (asked 1 (second ∷ first ∷ []) (0 ∷ 1 ∷ 2 ∷ [])) (holding 0 (7 ∷ []) (ten ∷ []) fresh) dots (8 ∷ 8 ∷ 8 ∷ [])
-      ≡ leavesInOrder (left (Found 1 2 0) (holding 1 (second ∷ []) (three ∷ []) (1 ∷ 0 ∷ 1 ∷ 0 ∷ 0 ∷ 0 ∷ 0 ∷ []))) scored (0 ∷ 1 ∷ 8 ∷ [])
+  -- the worst of two kept, 10, and not the best, 100: 5 < 0.5 x 10 is false, so the first block is evaluated, and 4 < 5, so the second is skipped
+  pub worst-of-two : searched (asked 2 (first ∷ second ∷ []) (0 ∷ 1 ∷ 2 ∷ [])) (holding 2 (7 ∷ 8 ∷ []) (hundred ∷ ten ∷ []) fresh) dots
+      ≡ leaves (left (Found 2 1 1) (holding 2 (7 ∷ 8 ∷ []) (hundred ∷ ten ∷ []) (1 ∷ 0 ∷ 0 ∷ 0 ∷ 0 ∷ 0 ∷ 0 ∷ []))) scored
+  -- greater score first: block 1, whose score is 5, fills the list with 3, and then 4 < 2 x 3, so block 0 is skipped; in number order both would be evaluated
+  pub by-score : searchedInOrder (askedOver (twoBlocks 4 5) two 1 (first ∷ second ∷ []) (0 ∷ 1 ∷ 2 ∷ [])) (holding 0 (7 ∷ []) (ten ∷ []) fresh) dots (8 ∷ 8 ∷ 8 ∷ [])
+      ≡ leavesInOrder (left (Found 1 1 1) (holding 1 (second ∷ []) (three ∷ []) (0 ∷ 0 ∷ 1 ∷ 0 ∷ 0 ∷ 0 ∷ 0 ∷ []))) (four ∷ five ∷ ten ∷ []) (1 ∷ 0 ∷ 8 ∷ [])
+  pub by-number : searched (askedOver (twoBlocks 4 5) two 1 (first ∷ second ∷ []) (0 ∷ 1 ∷ 2 ∷ [])) (holding 0 (7 ∷ []) (ten ∷ []) fresh) dots
+      ≡ leaves (left (Found 1 2 0) (holding 1 (second ∷ []) (three ∷ []) (1 ∷ 0 ∷ 1 ∷ 0 ∷ 0 ∷ 0 ∷ 0 ∷ []))) (four ∷ five ∷ ten ∷ [])
 
 -- blocks of equal score go by number; the greater score goes first, -0 last
 pub record Orders : Type 0 where
@@ -146,7 +166,7 @@ unfolding byScore sortedBy insertBy atMost isNan lt eq neg ofBits
 worked-orders = record { ties = refl; zeros = refl }
 
 pub worked-searches : Searches
-unfolding searched searchedInOrder byScore sortedBy insertBy slicesHold termsHold inBound paired zipWith wellFormed blocksHold lengthsHold offsetsHold idsHold boundsHold stepAllowed wellKept better keyOf scoresOf scoreOf entriesAt entries rangeReading reading dot startOf lengthOf packOf lengthLimit atMost isNan toBits ofBits le lt eq neg add mul ofInt
+unfolding searched searchedInOrder byScore sortedBy insertBy slicesHold termsHold inBound paired zipWith wellFormed listLimit blockLimit blocksHold lengthsHold offsetsHold idsHold boundsHold stepAllowed wellKept better keyOf scoresOf scoreOf entriesAt entries rangeReading reading dot startOf lengthOf packOf lengthLimit atMost isNan toBits ofBits le lt eq neg add mul ofInt
 worked-searches = record {
   half-of-worst = refl;
   not-full = refl;
@@ -160,5 +180,7 @@ worked-searches = record {
   byte-past-the-terms = refl;
   visited-broken = refl;
   nothing-to-keep = refl;
+  worst-of-two = refl;
   by-score = refl;
+  by-number = refl;
 }

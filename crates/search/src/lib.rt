@@ -8,6 +8,7 @@ ghost use Prim.Native.Nat.{_≤_};
 ghost use lib.ListN.{length as len};
 ghost use lib.Dec.{leb, ltb};
 ghost use lib.Ieee.{nan};
+ghost use Rattle.blocking.specs.Limits.{blockLimit};
 ghost use Rattle.refusal.specs.declared.Refusal.the-variants.{NothingToKeep, WrongQuery, WrongDocuments, MalformedList, WrongKeptList, BufferTooShort};
 ghost use Rattle.refusal.specs.First.{_gives_, firstOf};
 ghost use Rattle.documents.specs.Documents.{paired};
@@ -205,7 +206,7 @@ fn score_and_order(
     dots: &mut [f32],
     order: &mut [u64],
 )
-    requires { ⌜ len (now minimums) ≤ 65535 ⌝ }
+    requires { ⌜ len (now minimums) ≤ blockLimit ⌝ }
     requires { ⌜ len (now minimums) ≡ len (now steps) ⌝ }
     requires { ⌜ len (now minimums) ≤ len (now dots) ⌝ }
     requires { ⌜ len (now minimums) ≤ len (now order) ⌝ }

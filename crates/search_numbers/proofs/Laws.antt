@@ -8,15 +8,14 @@ use Rattle.refusal.specs.declared.Refusal.{Refusal}
 use Rattle.refusal.specs.Refusals.{numberOf}
 use Rattle.probing.specs.declared.Answer.{Answer}
 use Rattle.probing.specs.declared.Answer.the-variants.{Refused, Stopped}
-use Rattle.probing.specs.Probed.{Lends, left}
+use Rattle.probing.specs.Probed.{Lends, left, inNumbers}
 use Rattle.search.specs.Searched.{Question, leaves, leavesInOrder, searched, searchedInOrder}
-use Rattle.search_numbers.specs.Numbers.{answerNumber, positionOf, evaluatedOf, skippedOf}
 use Rattle.search_numbers.specs.Found.{shown, plain, sorted, seen}
 
 -- ---- the numbers of a search's answer
 -- a number, a position and two counts are those of the answer
 abbrev pub NumbersOf : Answer → ℕ → ℕ → ℕ → ℕ → Type 0
-NumbersOf a n p e s = (n ≡ answerNumber a) × (p ≡ positionOf a) × (e ≡ evaluatedOf a) × (s ≡ skippedOf a)
+NumbersOf a n p e s = (n ≡ inNumbers a .number) × (p ≡ inNumbers a .position) × (e ≡ inNumbers a .evaluated) × (s ≡ inNumbers a .skipped)
 
 pub refused-shows : (a : Answer) (r : Refusal) (n : ℕ) → a ≡ Refused r → n ≡ numberOf r → NumbersOf a n 0 0 0
 refused-shows a r n e h = rw e (h, refl, refl, refl)

@@ -1,13 +1,12 @@
--- What a search shows to C: four numbers, and the lent memory as it then lies.
+-- What a search shows to C: four numbers of its answer, and the lent memory as it then lies; how many are kept stands there.
 use Prim.Native.Nat.{ℕ}
 use mathlib.Core.Bool.{cond}
 use mathlib.Core.List.{List}
 use lib.Dec.{eqb}
 use lib.Ieee.{Float}
 use Rattle.probing.specs.declared.Answer.{Answer}
-use Rattle.probing.specs.Probed.{Lends}
+use Rattle.probing.specs.Probed.{Lends, inNumbers}
 use Rattle.search.specs.Searched.{Question, Searched, SearchedInOrder, searched, searchedInOrder}
-use Rattle.search_numbers.specs.Numbers.{answerNumber, positionOf, evaluatedOf, skippedOf}
 
 pub record Shown : Type 0 where
   pub number : ℕ
@@ -22,7 +21,7 @@ abbrev pub shown : ℕ → ℕ → ℕ → ℕ → Lends → List Float → List
 shown n p e s l xs bs = record { number = n; position = p; evaluated = e; skipped = s; lent = l; scores = xs; order = bs }
 
 abbrev pub ofAnswer : Answer → Lends → List Float → List ℕ → Shown
-ofAnswer a l xs bs = shown (answerNumber a) (positionOf a) (evaluatedOf a) (skippedOf a) l xs bs
+ofAnswer a l xs bs = shown (inNumbers a .number) (inNumbers a .position) (inNumbers a .evaluated) (inNumbers a .skipped) l xs bs
 
 -- in number order the order places are not looked at
 abbrev pub plain : Searched → List ℕ → Shown
@@ -31,6 +30,6 @@ plain s bs = ofAnswer (s .found .answer) (s .found .lent) (s .scores) bs
 abbrev pub sorted : SearchedInOrder → Shown
 sorted s = ofAnswer (s .found .answer) (s .found .lent) (s .scores) (s .order)
 
--- the choice of the order: 0 for number order, any other number for greater score first
+-- the choice of the order: 0 for number order, 1 for greater score first; any other number does as 1, and is reserved
 unfoldable pub seen : ℕ → Question → Lends → List Float → List ℕ → Shown
 seen byScore q l xs bs = cond (eqb byScore 0) (plain (searched q l xs) bs) (sorted (searchedInOrder q l xs bs))

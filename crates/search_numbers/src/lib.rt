@@ -1,27 +1,16 @@
-// Answers as numbers, as C has them: 0 for an accepted call, else the refusal's number, and beside it the numbers that a search lends out.
+// A search's answer as numbers, as C has them: 0 for an accepted call, else the refusal's number, and beside it the numbers that a search
+// lends out.
 use probing::Answer;
-use refusal::Verdict;
 ghost use mathlib.Core.Path.{_≡_};
 ghost use Rattle.kept_list.specs.Lent.{lent};
 ghost use Rattle.quantized_summary.specs.Layout.{arrays};
-ghost use Rattle.probing.specs.Probed.{terms, lends};
+ghost use Rattle.probing.specs.Probed.{terms, lends, inNumbers};
 ghost use Rattle.search.specs.Searched.{question};
-ghost use Rattle.search_numbers.specs.Numbers.{verdictNumber, answerNumber, positionOf, evaluatedOf, skippedOf};
 ghost use Rattle.search_numbers.specs.Found.{shown, seen};
-
-// 0 for an accepted call, else the refusal's number.
-pub fn number_of(verdict: Verdict) -> u64
-    ensures { λ r. ⌜ r ≡ verdictNumber verdict ⌝ }
-{
-    match verdict {
-        Verdict::Accepted => 0,
-        Verdict::Refused(refusal) => refusal.number(),
-    }
-}
 
 // The number of a search's answer, and the numbers that go with it: each is 0 where the answer has none of its kind.
 fn show(answer: Answer, position: &mut u64, evaluated: &mut u64, skipped: &mut u64) -> u64
-    ensures { λ r. ⌜ (r ≡ answerNumber answer) × (now (position .exit) ≡ positionOf answer) × (now (evaluated .exit) ≡ evaluatedOf answer) × (now (skipped .exit) ≡ skippedOf answer) ⌝ }
+    ensures { λ r. ⌜ (r ≡ inNumbers answer .number) × (now (position .exit) ≡ inNumbers answer .position) × (now (evaluated .exit) ≡ inNumbers answer .evaluated) × (now (skipped .exit) ≡ inNumbers answer .skipped) ⌝ }
 {
     *position = 0;
     *evaluated = 0;
@@ -47,8 +36,9 @@ fn show(answer: Answer, position: &mut u64, evaluated: &mut u64, skipped: &mut u
     }
 }
 
-// A search and its numbers: search::search where `by_score` is 0, and else search::sort_and_search. `position` is left with the posting
-// at which 13 or 14 stopped the search, `evaluated` and `skipped` with the counts of a search that was not stopped; else they are 0.
+// A search and its numbers: search::search where `by_score` is 0, search::sort_and_search where it is 1; any other number does as 1, and is
+// reserved. `position` is left with the posting at which 13 or 14 stopped the search, `evaluated` and `skipped` with the counts of a
+// search that was not stopped; else they are 0.
 pub fn find(
     by_score: u64,
     asked: &[u32],

@@ -1,21 +1,34 @@
 -- What the choice comes to by its tests, one after another. Assumes nothing.
-use Prim.Native.Nat.{ℕ, _-_, _≤_, _<_, min}
+use Prim.Native.Nat.{ℕ, zero, suc, _-_, _≤_, _<_, min}
 use native.Mathlib.Omega.{arith}
-use mathlib.Core.Path.{_≡_, sym, ap, _∙_}
+use mathlib.Core.Path.{_≡_, refl, sym, ap, _∙_}
 use mathlib.Core.Bool.{Bool, true, false, cond}
 use mathlib.Core.List.{List, _++_}
 use lib.ListN.{length, getD, take, drop, replicate}
 use lib.Dec.{leb}
-use borrow.Author.Tests.{eq-eqb, ne-eqb}
+use borrow.Author.Tests.{ne-eqb}
 use lib.Ieee.{Float}
 use Rattle.float32.specs.Order.{atMost}
 use Rattle.documents.specs.Documents.{Term, Documents}
 use Rattle.centroid_index.specs.Index.{addTerms}
 use Rattle.assignment.specs.Nearest.{lastNoLess}
+use Rattle.names.specs.declared.CentroidSlot.{CentroidSlot}
 use Rattle.slot_scores.specs.declared.Best.{Best}
-use Rattle.slot_scores.specs.Met.{met, none, bestMet, fromZero, noneAbove, chosen, clearMet, chosenBy, setBack, nearestByKeys, scoresAfter}
+use Rattle.slot_scores.specs.declared.LastSlot.{LastSlot}
+use Rattle.slot_scores.specs.declared.LastSlot.the-variants.{At, Nowhere}
+use Rattle.slot_scores.specs.Met.{met, none, bestMet, fromZero, lastBefore, noneAbove, chosen, clearMet, chosenBy, setBack, nearestByKeys, scoresAfter}
 use Rattle.slot_scores.specs.Loops.{cut-is, cut-rest, best-above, from-zero-within}
 
+-- ---- the slot before a place
+slot-before : (n : ℕ) (l : LastSlot) (s : CentroidSlot) → l ≡ lastBefore n → l ≡ At s → n ≡ suc (s .0)
+slot-before zero l s p q = absurd (let z : _≡_ {A = ℕ} 0 1 = cc in let y : ⊥ = omega arith in y)
+slot-before (suc n) l s p q = let e : record { 0 = n } ≡ s = cc in ap (λ z. suc (z .0)) e
+
+nothing-before : (n : ℕ) (l : LastSlot) → l ≡ lastBefore n → l ≡ Nowhere → n ≡ 0
+nothing-before zero l p q = refl
+nothing-before (suc n) l p q = absurd (let z : _≡_ {A = ℕ} 0 1 = cc in let y : ⊥ = omega arith in y)
+
+-- ---- the choice
 module _ (first : ℕ) (cs : List ℕ) (index : Documents) (xs : List Float) (qs : List Term) (short : length xs ≤ length cs) (b : Best) (p : b ≡ bestMet index xs qs) (u : Bool) (q : u ≡ atMost (b .score) none) where
   by-test : chosen first cs index xs qs ≡ cond u (noneAbove first cs xs (fromZero xs (length xs))) (getD cs (b .slot .0) 0)
   unfolding chosen
@@ -34,18 +47,22 @@ module _ (first : ℕ) (cs : List ℕ) (index : Documents) (xs : List Float) (qs
   chosen-above h = sym (by-test ∙ ap (λ z. cond z (noneAbove first cs xs (fromZero xs (length xs))) (getD cs (b .slot .0) 0)) h)
 
   -- else by the last slot from +0 on
-  module _ (past : ℕ) (k : past ≡ fromZero xs (length xs)) where
-    pub past-within : past ≤ length cs
-    past-within = let w = from-zero-within xs (length xs) in omega arith
+  by-past : (past : ℕ) → past ≡ fromZero xs (length xs) → u ≡ true → chosen first cs index xs qs ≡ noneAbove first cs xs past
+  by-past past k h = by-test ∙ ap (λ z. cond z (noneAbove first cs xs (fromZero xs (length xs))) (getD cs (b .slot .0) 0)) h ∙ ap (noneAbove first cs xs) (sym k)
 
-    by-past : u ≡ true → chosen first cs index xs qs ≡ noneAbove first cs xs past
-    by-past h = by-test ∙ ap (λ z. cond z (noneAbove first cs xs (fromZero xs (length xs))) (getD cs (b .slot .0) 0)) h ∙ ap (noneAbove first cs xs) (sym k)
+  module _ (l : LastSlot) (k : l ≡ lastBefore (fromZero xs (length xs))) where
+    pub last-within : (s : CentroidSlot) → l ≡ At s → s .0 < length cs
+    last-within s e = let w = from-zero-within xs (length xs) in let z = slot-before (fromZero xs (length xs)) l s k e in omega arith
 
-    pub chosen-all : u ≡ true → past ≡ 0 → (r : ℕ) → r ≡ lastNoLess first cs xs → r ≡ chosen first cs index xs qs
-    chosen-all h z r g = g ∙ sym (by-past h ∙ ap (λ t. cond t (lastNoLess first cs xs) (getD cs (past - 1) 0)) (eq-eqb past 0 z))
+    pub chosen-last : u ≡ true → (s : CentroidSlot) → l ≡ At s → getD cs (s .0) 0 ≡ chosen first cs index xs qs
+    chosen-last h s e =
+        let z : suc (s .0) ≡ fromZero xs (length xs) = sym (slot-before (fromZero xs (length xs)) l s k e) in
+        let m : s .0 ≡ suc (s .0) - 1 = omega arith in
+        ap (λ n. getD cs n 0) m
+        ∙ sym (by-past (suc (s .0)) z h ∙ ap (λ t. cond t (lastNoLess first cs xs) (getD cs (suc (s .0) - 1) 0)) (ne-eqb (suc (s .0)) 0 (λ q. omega arith)))
 
-    pub chosen-last : u ≡ true → (past ≡ 0 → ⊥) → getD cs (past - 1) 0 ≡ chosen first cs index xs qs
-    chosen-last h z = sym (by-past h ∙ ap (λ t. cond t (lastNoLess first cs xs) (getD cs (past - 1) 0)) (ne-eqb past 0 z))
+    pub chosen-all : u ≡ true → l ≡ Nowhere → (r : ℕ) → r ≡ lastNoLess first cs xs → r ≡ chosen first cs index xs qs
+    chosen-all h e r g = g ∙ sym (by-past 0 (sym (nothing-before (fromZero xs (length xs)) l k e)) h)
 
 -- ---- by the entries met or by all scores
 module _ (first : ℕ) (cs : List ℕ) (index : Documents) (xs ys zs : List Float) (qs : List Term) (p : ys ≡ addTerms index xs qs) (u : Bool) (q : u ≡ leb (length ys) (length (met index qs))) (r : ℕ) where

@@ -4,7 +4,7 @@ use native.Mathlib.Omega.{arith}
 use native.Mathlib.Decide.{decLt}
 use mathlib.Core.Path.{_≡_, refl, sym, ap, _∙_}
 use mathlib.Core.Bool.{Bool, true, false, _||_, cond}
-use mathlib.Core.List.{List, [], _∷_, _++_, map, foldl}
+use mathlib.Core.List.{List, [], _∷_, map, foldl}
 use lib.ListN.{length, getD, set, take, replicate, length-set, length-replicate, getD-replicate, length-take}
 use lib.Seq.{getD-set-same, getD-set-other, ext-getD, getD-take, take-set-lt, take-set-le, set-out}
 use lib.Dec.{T, eqb}
@@ -12,18 +12,10 @@ use borrow.Author.Tests.{eqb-true, eqb-false}
 use lib.Ieee.{Float, nan, binary32, fits, add, mul}
 use lib.Ieee.Fits.{add-fits, nan-fits}
 use Rattle.lists.specs.Lists.{among}
-use Rattle.lists.specs.Laws.{neither}
+use Rattle.lists.specs.Laws.{neither, among-append}
 use Rattle.documents.specs.Documents.{Term, Documents, terms}
 use Rattle.centroid_index.specs.Index.{addEntry, addTerm, addTerms}
 use Rattle.slot_scores.specs.Met.{slotsOf, met, none, clearAt, clearMet}
-
-among-append : (s : ℕ) (a b : List ℕ) → among s (a ++ b) ≡ (among s a || among s b)
-among-append s [] b = refl
-among-append s (x ∷ a) b = go (eqb s x) (among-append s a b)
-  where
-    go : (t : Bool) → among s (a ++ b) ≡ (among s a || among s b) → (t || among s (a ++ b)) ≡ ((t || among s a) || among s b)
-    go true i = refl
-    go false i = i
 
 -- ---- adding
 entries-length : (v : Float) (ts : List Term) (xs : List Float) → length (foldl (addEntry v) xs ts) ≡ length xs

@@ -21,7 +21,8 @@ use Rattle.documents.specs.TermKeys.{componentOf, termOf}
 use Rattle.centroid_index.specs.Walks.{Cut}
 use Rattle.centroid_index.specs.Passes.{components-of}
 use Rattle.slot_scores.specs.declared.Best.{Best}
-use Rattle.slot_scores.specs.Met.{slotsOf, met, none, best, givesWay, ifBetter, better, fromZero}
+use Rattle.slot_scores.specs.declared.LastSlot.the-variants.{At, Nowhere}
+use Rattle.slot_scores.specs.Met.{slotsOf, met, none, best, givesWay, ifBetter, better, fromZero, lastBefore}
 
 -- ---- one slot
 module _ (b : Best) (s : ℕ) (x : Float) (u v : Bool) (p : u ≡ atMost (b .score) x) where
@@ -63,11 +64,11 @@ module _ {A : Type 0} (f : A → ℕ → A) (index : Documents) (ks : List ℕ) 
   met-end a h = ap (λ l. foldl f a (met index (map termOf l))) (drop-of-length-le ks h)
 
 -- ---- the way back to the last slot from +0 on
-pub back-found : (xs : List Float) (k : ℕ) → 0 < k → atMost none (getD xs (k - 1) nan) ≡ true → k ≡ fromZero xs k
-back-found xs zero h e = refl
+pub back-found : (xs : List Float) (k : ℕ) → 0 < k → atMost none (getD xs (k - 1) nan) ≡ true → At (record { 0 = k - 1 }) ≡ lastBefore (fromZero xs k)
+back-found xs zero h e = absurd (let z : ⊥ = omega arith in z)
 back-found xs (suc k) h e =
     let z : suc k - 1 ≡ k = omega arith in
-    sym (ap (λ b. cond b (suc k) (fromZero xs k)) (ap (λ n. atMost none (getD xs n nan)) (sym z) ∙ e))
+    ap (λ n. At (record { 0 = n })) z ∙ sym (ap (λ b. lastBefore (cond b (suc k) (fromZero xs k))) (ap (λ n. atMost none (getD xs n nan)) (sym z) ∙ e))
 
 pub back-step : (xs : List Float) (k : ℕ) → 0 < k → atMost none (getD xs (k - 1) nan) ≡ false → fromZero xs (k - 1) ≡ fromZero xs k
 back-step xs zero h e = absurd (let z : ⊥ = omega arith in z)
@@ -75,7 +76,7 @@ back-step xs (suc k) h e =
     let z : suc k - 1 ≡ k = omega arith in
     ap (fromZero xs) z ∙ sym (ap (λ b. cond b (suc k) (fromZero xs k)) (ap (λ n. atMost none (getD xs n nan)) (sym z) ∙ e))
 
-pub back-end : (xs : List Float) (k : ℕ) → k ≤ 0 → 0 ≡ fromZero xs k
+pub back-end : (xs : List Float) (k : ℕ) → k ≤ 0 → Nowhere ≡ lastBefore (fromZero xs k)
 back-end xs zero h = refl
 back-end xs (suc k) h = absurd (let z : ⊥ = omega arith in z)
 

@@ -12,6 +12,8 @@ use Rattle.documents.specs.Documents.{Term, Documents, terms}
 use Rattle.centroid_index.specs.Index.{addTerms}
 use Rattle.assignment.specs.Nearest.{lastNoLess}
 use Rattle.slot_scores.specs.declared.Best.{Best}
+use Rattle.slot_scores.specs.declared.LastSlot.{LastSlot}
+use Rattle.slot_scores.specs.declared.LastSlot.the-variants.{At, Nowhere}
 
 -- the slots that a term meets: those of its component's entries
 abbrev pub slotsOf : Documents → Term → List ℕ
@@ -51,6 +53,11 @@ bestMet index xs qs = foldl (better xs) (best 0 none) (met index qs)
 abbrev pub fromZero : List Float → ℕ → ℕ
 fromZero xs zero = zero
 fromZero xs (suc n) = cond (atMost none (getD xs n nan)) (suc n) (fromZero xs n)
+
+-- the slot before a place, of which there is none before the first
+abbrev pub lastBefore : ℕ → LastSlot
+lastBefore zero = Nowhere
+lastBefore (suc n) = At (record { 0 = n })
 
 -- ---- the centroid that is chosen
 -- by the place of the last slot from +0 on; where there is none, by all slots

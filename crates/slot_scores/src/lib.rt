@@ -9,7 +9,7 @@ ghost use lib.ListN.{length};
 ghost use Rattle.documents.specs.Documents.{documents};
 ghost use Rattle.documents.specs.TermKeys.{termOf};
 ghost use Rattle.centroid_index.specs.Index.{addTerms};
-ghost use Rattle.slot_scores.specs.Met.{met, ifBetter, better, bestMet, fromZero, chosen, clearAt, clearMet, chosenBy, setBack, nearestByKeys, scoresAfter};
+ghost use Rattle.slot_scores.specs.Met.{met, ifBetter, better, bestMet, fromZero, lastBefore, chosen, clearAt, clearMet, chosenBy, setBack, nearestByKeys, scoresAfter};
 use names::CentroidSlot;
 use names::DocumentId;
 
@@ -20,17 +20,17 @@ struct Best {
 }
 
 // The best so far, or another slot whose score is greater by total order, or the same at a later slot.
-fn if_better(best: Best, slot: u64, score: f32) -> Best
-    ensures { λ r. ⌜ r ≡ ifBetter best slot score ⌝ }
+fn if_better(best: Best, slot: CentroidSlot, score: f32) -> Best
+    ensures { λ r. ⌜ r ≡ ifBetter best (slot .0) score ⌝ }
 {
     // most are less: they are passed over by one test
     if !float32::at_most(best.score, score) {
         return best;
     }
     let own = best.slot;
-    if (own.0 < slot) | !float32::at_most(score, best.score) {
+    if (own.0 < slot.0) | !float32::at_most(score, best.score) {
         Best {
-            slot: CentroidSlot(slot),
+            slot: slot,
             score: score,
         }
     } else {
@@ -39,10 +39,10 @@ fn if_better(best: Best, slot: u64, score: f32) -> Best
 }
 
 // The better of the best so far and a slot with its score. A slot past the scores is passed over.
-fn best_of(best: Best, slot: u64, scores: &[f32]) -> Best
-    ensures { λ r. ⌜ r ≡ better (now (scores .entry)) best slot ⌝ }
+fn best_of(best: Best, slot: CentroidSlot, scores: &[f32]) -> Best
+    ensures { λ r. ⌜ r ≡ better (now (scores .entry)) best (slot .0) ⌝ }
 {
-    let s = slot as usize;
+    let s = slot.0 as usize;
     if s < scores.len() {
         if_better(best, slot, scores[s])
     } else {
@@ -57,7 +57,7 @@ fn best_slot(best: Best, slots: &[u64], scores: &[f32]) -> Best
     let mut b = best;
     let mut i = 0usize;
     while i < slots.len() {
-        b = best_of(b, slots[i], scores);
+        b = best_of(b, CentroidSlot(slots[i]), scores);
         i += 1;
     }
     b
@@ -83,18 +83,24 @@ fn best_met(starts: &[u64], slots: &[u64], weights: &[f32], keys: &[u64], scores
     b
 }
 
-// One past the last slot whose score is at least +0 by total order; 0 where there is none. It takes as many steps as slots after that one.
-fn last_from_zero(scores: &[f32]) -> usize
-    ensures { λ r. ⌜ r ≡ fromZero (now (scores .entry)) (length (now (scores .entry))) ⌝ }
+// The last slot of those asked for, if there is one.
+enum LastSlot {
+    At(CentroidSlot),
+    Nowhere,
+}
+
+// The last slot whose score is at least +0 by total order. It takes as many steps as slots after that one.
+fn last_from_zero(scores: &[f32]) -> LastSlot
+    ensures { λ r. ⌜ r ≡ lastBefore (fromZero (now (scores .entry)) (length (now (scores .entry)))) ⌝ }
 {
     let mut k = scores.len();
     while 0 < k {
         if float32::at_most(0.0, scores[k - 1]) {
-            return k;
+            return LastSlot::At(CentroidSlot((k - 1) as u64));
         }
         k -= 1;
     }
-    0
+    LastSlot::Nowhere
 }
 
 // The centroid of the best slot met, if its score is above +0. Else no score is above +0, and the last slot whose score is at least +0 has
@@ -118,18 +124,20 @@ fn choose(
         let at = slot.0 as usize;
         return DocumentId(competing[at]);
     }
-    let past = last_from_zero(scores);
-    if past == 0 {
-        return assignment::last_greatest(otherwise, competing, scores);
+    match last_from_zero(scores) {
+        LastSlot::At(slot) => {
+            let at = slot.0 as usize;
+            DocumentId(competing[at])
+        }
+        LastSlot::Nowhere => assignment::last_greatest(otherwise, competing, scores),
     }
-    DocumentId(competing[past - 1])
 }
 
 // Sets the score of a slot to +0.
-fn clear_slot(slot: u64, scores: &mut [f32])
-    ensures { λ _. ⌜ now (scores .exit) ≡ clearAt (now (scores .entry)) slot ⌝ }
+fn clear_slot(slot: CentroidSlot, scores: &mut [f32])
+    ensures { λ _. ⌜ now (scores .exit) ≡ clearAt (now (scores .entry)) (slot .0) ⌝ }
 {
-    let s = slot as usize;
+    let s = slot.0 as usize;
     if s < scores.len() {
         scores[s] = 0.0;
     }
@@ -141,7 +149,7 @@ fn clear_slots(slots: &[u64], scores: &mut [f32])
 {
     let mut i = 0usize;
     while i < slots.len() {
-        clear_slot(slots[i], scores);
+        clear_slot(CentroidSlot(slots[i]), scores);
         i += 1;
     }
 }
@@ -210,8 +218,8 @@ fn nearest_within(
 
 // The centroid that takes a document by the terms with these keys, of those that compete; another document's id where none does. The terms
 // are added to the scores, one of the slots is chosen, and the scores are set back to +0. From scores that are all +0 this is the last
-// centroid with the greatest score, and leaves them all +0 (specs/Zeros). It takes time in proportion to the keys and the entries that
-// they meet, however many centroids compete.
+// centroid with the greatest score, and leaves them all +0 (specs/Zeros), in time that goes by the keys and the entries that they meet,
+// however many centroids compete.
 pub fn nearest_by_keys(
     otherwise: DocumentId,
     competing: &[u64],

@@ -9,7 +9,7 @@ use lib.Dec.{T, ltb, eqb}
 use lib.Ieee.{Float, nan, binary32, fits}
 use borrow.Author.Tests.{ltb-true, ltb-false, eqb-true}
 use Rattle.lists.specs.Lists.{EachOf, every, among}
-use Rattle.lists.specs.Laws.{both}
+use Rattle.lists.specs.Laws.{both, among-append}
 use Rattle.refusal.specs.declared.Refusal.the-variants.{WrongTerms, BufferTooShort}
 use Rattle.refusal.specs.declared.Verdict.{Verdict}
 use Rattle.refusal.specs.declared.Verdict.the-variants as verdict
@@ -27,7 +27,7 @@ use Rattle.summaries.specs.Answers.{zero as zeroValue}
 use Rattle.block_maximum.specs.Meeting.{Met, met, meets}
 use Rattle.summaries.specs.Steps.{FinishedFirst}
 use Rattle.block_maximum.specs.Firsts.{Below, firsts-count}
-use Rattle.block_maximum.specs.Changes.{components, maximumOf, among-append}
+use Rattle.block_maximum.specs.Changes.{components, maximumOf}
 use Rattle.block_maximum.specs.Meetings.{none-met}
 use Rattle.block_maximum.specs.After.{AfterAll, all-met}
 use Rattle.summaries.specs.Left.{keys-end, places-end, maxima-end, answer-end}

@@ -29,7 +29,7 @@ use Rattle.probing.specs.Probed.{Lends, given, laid, opened, listed, probed}
 use Rattle.probing.specs.Probed as probing
 use Rattle.search.specs.Order.{noLater, byScore}
 use Rattle.search.specs.Searched.{Question, blockCount, scoresFor, givenFor, swept, room, tests, Searched, leaves, ifAccepted, scorePlaces, searched, SearchedInOrder, leavesInOrder, ifAcceptedInOrder, orderPlaces, searchedInOrder}
-use Rattle.search.specs.Scores.{queryOf}
+use Rattle.search.specs.Dots.{queryTerms}
 use Rattle.search.specs.Trace.{turns}
 use Rattle.search.proofs.Keyed.{order-length}
 use Rattle.told.specs.Cuts.{length-from}
@@ -92,7 +92,7 @@ module _ (q : Question) (l : Lends) (b : Bool) (accepted : firstOf (tests q l b)
   scores-many : length (scoresFor q) ≡ blockCount q
   scores-many =
       let e = parts (length (q .postings)) (q .offsets) (q .layout) (not-false (wellFormed (length (q .postings)) (q .offsets) (q .layout)) (faults .1 .1 .1 .0)) .as-many in
-      scores-length (q .layout) (queryOf q) ∙ omega arith
+      scores-length (q .layout) (queryTerms (q .terms)) ∙ omega arith
 
   few-kept : ltb (q .k) (l .kept .size) ≡ false
   unfolding wellKept

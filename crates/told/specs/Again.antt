@@ -1,10 +1,10 @@
 -- What some turns leave where it was lent is taken up again by later ones: it is accepted, and it is the same state. Assumes nothing.
 use Prim.Native.Nat.{ℕ, _+_, _-_, _≤_}
 use native.Mathlib.Omega.{arith}
-use mathlib.Core.Path.{_≡_, refl, ap, _∙_}
+use mathlib.Core.Path.{_≡_, ap, _∙_}
 use mathlib.Core.Bool.{false, _||_}
 use mathlib.Core.List.{List, [], _∷_, _++_}
-use lib.ListN.{length, set, length-append, length-drop, length-set}
+use lib.ListN.{length, length-append, length-drop}
 use lib.Seq.{length-take-le, take-at}
 use lib.Dec.{leb, ltb}
 use borrow.Author.Tests.{ltb-false, leb-false, le-ltb, lt-leb}
@@ -19,7 +19,8 @@ use Rattle.kept_list.specs.Lent.{entries, written}
 use Rattle.kept_list.specs.Laid.{RoomFor, entries-written, room-written, length-beside}
 use Rattle.probing.specs.Probing.{Given, State, state}
 use Rattle.probing.specs.Probed.{Terms, Lends, lends, tests, bytesOf, restOf, opened}
-use Rattle.search.specs.Trace.{Turn, entriesOf, startsOf, eventsOf, marked, after}
+use Rattle.search.specs.Trace.{Turn, entriesOf, startsOf, eventsOf, after}
+use Rattle.search.specs.Told.{length-marked}
 
 -- what is held once a state is laid down where the kept list and the visit bytes lie
 abbrev pub laidDown : Terms → Lends → State → Lends
@@ -28,10 +29,6 @@ laidDown t l s = lends (written (s .kept) (l .kept)) (s .visits ++ restOf t (l .
 keepAll-few : (k : ℕ) (es ps : List Scored) → length es ≤ k → length (keepAll better k es ps) ≤ k
 keepAll-few k es [] h = h
 keepAll-few k es (p ∷ ps) h = keepAll-few k (keep better k p es) ps (omega (arith, length-keep better k p es))
-
-pub length-marked : (visits ns : List ℕ) → length (marked visits ns) ≡ length visits
-length-marked visits [] = refl
-length-marked visits (n ∷ ns) = length-marked (set visits n 1) ns ∙ length-set visits n 1
 
 module _ (k : ℕ) (t : Terms) (l : Lends) (accepted : firstOf (tests k t l) ≡ Accepted) where
   -- there is room for k entries, and a byte for each start

@@ -21,7 +21,8 @@ use Rattle.search.specs.Fates.{Evaluated, InSkipped, VisitedBefore, StoppedBefo
 use Rattle.search.specs.Fated.{Fate, isEvaluated, isSkipped, isPassed, isStopped, fate, visited-since}
 use Rattle.reasons.specs.declared.Fate.the-variants as tells
 use Rattle.told.specs.Alone.{turns-alone, places-alone}
-use Rattle.told.specs.Again.{length-marked, after-fits}
+use Rattle.search.specs.Told.{length-marked}
+use Rattle.told.specs.Again.{after-fits}
 use Rattle.told.specs.Telling.{Search, told, givenOf, blocksOf, beganWith, storyOf, Ended, PostingOf, InFirst, Begun, ReachedAs, toldOf}
 use Rattle.told.specs.AtTurn.{skipped-told, reached-told}
 

@@ -2,6 +2,7 @@
 use crate::text::say;
 use crate::text::say_page;
 use crate::text::say_with;
+use names::DocumentId;
 use packing::PackedPosting;
 use page_number::PageNumber;
 use probing::Answer;
@@ -49,10 +50,10 @@ fn say_answer(answer: Answer) -> bool {
 }
 
 // A kept range: its page number and its score.
-fn say_kept(offsets: &[u64], posting: u64, score: f32) {
-    let start = PackedPosting(posting).unpack().start;
+fn say_kept(offsets: &[u64], posting: PackedPosting, score: f32) {
+    let start = posting.unpack().start;
     if let PageNumber::Document(id) = page_number::page_number(offsets, start) {
-        say_page(id.0, score);
+        say_page(id, score);
         say(b"\n");
     }
 }
@@ -71,8 +72,8 @@ fn say_found(offsets: &[u64], length: u64, packed: &[u64], scores: &[f32]) {
     while i < length {
         say_kept(
             offsets,
-            held::offset_at(packed, i as usize),
-            held::dot_at(scores, i as usize),
+            PackedPosting(held::entry_at(packed, i as usize)),
+            held::score_at(scores, i as usize),
         );
         i += 1;
     }
@@ -218,11 +219,11 @@ fn say_left(
     let mut none = true;
     let mut i = 0usize;
     while i < postings.len() {
-        let posting = PackedPosting(held::offset_at(postings, i));
+        let posting = PackedPosting(held::entry_at(postings, i));
         if !reasons::is_kept(posting, length, packed) {
             none = false;
             let score = score_of(components, values, asked, weights, posting);
-            say_page(held::offset_at(ids, i), score);
+            say_page(DocumentId(held::entry_at(ids, i)), score);
             say_reason(short_search::fate_of(
                 i as u64,
                 turns,

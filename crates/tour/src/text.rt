@@ -1,5 +1,6 @@
 // Text on standard output. In a text with numbers `#` stands for the next number, `_` for the next one in two places, and `%` for the next
 // one in hundredths.
+use names::DocumentId;
 
 pub(crate) fn say(text: &[u8]) {
     io::write_all(1, text);
@@ -50,7 +51,7 @@ pub(crate) fn say_with(text: &[u8], a: u64, b: u64, c: u64, d: u64) {
     let mut next = 0usize;
     let mut i = 0usize;
     while i < text.len() {
-        let n = held::offset_at(&numbers, next);
+        let n = held::entry_at(&numbers, next);
         if say_byte(text[i], n) {
             next = std::num::wrapping_add_usize(next, 1);
         }
@@ -59,12 +60,13 @@ pub(crate) fn say_with(text: &[u8], a: u64, b: u64, c: u64, d: u64) {
 }
 
 // A page by its number, what it says of its bay, and its score to the hundredth below it.
-pub(crate) fn say_page(id: u64, score: f32) {
+pub(crate) fn say_page(id: DocumentId, score: f32) {
+    let n = id.0;
     let h = float32::scaled_length(score, 100);
-    match id {
-        1 | 3 | 6 | 9 => say_with(b"    page _  planned      score %", id, h, 0, 0),
-        2 | 8 => say_with(b"    page _  in progress  score %", id, h, 0, 0),
-        4 => say_with(b"    page _  blank        score %", id, h, 0, 0),
-        _ => say_with(b"    page _  completed    score %", id, h, 0, 0),
+    match n {
+        1 | 3 | 6 | 9 => say_with(b"    page _  planned      score %", n, h, 0, 0),
+        2 | 8 => say_with(b"    page _  in progress  score %", n, h, 0, 0),
+        4 => say_with(b"    page _  blank        score %", n, h, 0, 0),
+        _ => say_with(b"    page _  completed    score %", n, h, 0, 0),
     }
 }

@@ -1,25 +1,23 @@
 -- Document 01's worked pages, those marked P, as one table: what is asked, and what the document says. Assumes nothing.
 use Prim.Native.Nat.{ℕ, _-_, _^_}
 use mathlib.Core.Path.{_≡_, refl}
+use mathlib.Core.Bool.{cond}
+use mathlib.Core.Logic.{_⊎_, inl, inr}
 use mathlib.Core.List.{List, [], _∷_, map}
+use lib.Dec.{eqb}
 use lib.IntN.{pos}
 use lib.Ieee.{Float, nan, binary32, ofBits, ofInt, add, sub, mul, div}
 use lib.ListN.{take}
-use Rattle.refusal.specs.declared.Verdict.{Verdict}
-use Rattle.refusal.specs.declared.Verdict.the-variants as verdict
-use Rattle.refusal.specs.Refusals.{numberOf}
+use Rattle.refusal.specs.Refusals.{verdictNumber}
 use Rattle.float32.specs.Bound.{inBound}
 use Rattle.float32.specs.Key.{keyOf}
 use Rattle.float32.specs.Order.{atMost}
 use Rattle.float32.specs.Rounding.{byteOf}
-use Rattle.packing.specs.declared.PackingAnswer.{PackingAnswer}
-use Rattle.packing.specs.declared.PackingAnswer.the-variants as pack
+use Rattle.packing.specs.Packing as Packing
 use Rattle.packing.specs.Packing.{startLimit, lengthLimit, packOf, packed, startOf}
-use Rattle.blocking.specs.declared.BlockingAnswer.{BlockingAnswer}
-use Rattle.blocking.specs.declared.BlockingAnswer.the-variants as block
+use Rattle.blocking.specs.Limits.{listLimit, blockLimit}
+use Rattle.blocking.specs.Blocking as Blocking
 use Rattle.blocking.specs.Blocking.{fixedOffsets, blocked, offsetsLeft}
-use Rattle.quantizing.specs.declared.Quantized.{Quantized}
-use Rattle.quantizing.specs.declared.Quantized.the-variants as quantize
 use Rattle.quantizing.specs.Quantizing as Quantizing
 use Rattle.quantizing.specs.Quantizing.{least, greatest, readBack, quantized}
 use Rattle.kept_list.specs.declared.Scored.{Scored}
@@ -51,19 +49,18 @@ pub data Said : Type 0 where
   values : List Float → Said
   kept : List Pair → Said
 
--- ---- what the proved functions answer, by the definitions that their contracts cite
-abbrev pub ofPacking : PackingAnswer → Said
-ofPacking (pack.Refused r) = refused (numberOf r)
-ofPacking (pack.Packed p) = number (p .0)
+-- ---- what the proved functions answer, by the definitions that their contracts cite; each answer in numbers by the definition of its crate
+-- the number of a refusal, or what is said of the values
+abbrev pub saying : {A : Type 0} → (A → Said) → ℕ ⊎ A → Said
+saying say (inl n) = refused n
+saying say (inr x) = say x
+
+abbrev pub packing : ℕ → ℕ → Said
+packing start end = saying number (Packing.inNumbers (packed start end))
 
 -- as many offsets as were written, of what is left in the lent buffer
-abbrev pub ofBlocking : BlockingAnswer → List ℕ → Said
-ofBlocking (block.Refused r) left = refused (numberOf r)
-ofBlocking (block.Written n) left = numbers (take n left)
-
-abbrev pub ofQuantizing : (Float → Float → List ℕ → Said) → Quantized → List ℕ → Said
-ofQuantizing say (quantize.Refused r) left = refused (numberOf r)
-ofQuantizing say (quantize.Summary low st) left = say low st left
+abbrev pub blocking : ℕ → ℕ → List ℕ → Said
+blocking n b buffer = saying (λ m. numbers (take m (offsetsLeft n b buffer))) (Blocking.inNumbers (blocked n b buffer))
 
 abbrev pub sayStepAndCodes : Float → Float → List ℕ → Said
 sayStepAndCodes low st left = step st left
@@ -78,23 +75,22 @@ abbrev pub quantizing : (Float → Float → List ℕ → Said) → List Float �
 quantizing say vs = go (quantized vs (map (λ v. 9) vs))
   where
     go : Quantizing.Left → Said
-    go l = ofQuantizing say (l .answer) (l .codes)
+    go l = saying (λ z. say (z .0) (z .1) (l .codes)) (Quantizing.inNumbers (l .answer))
 
-abbrev pub goOn : Verdict → Lent → (Lent → Said) → Said
-goOn verdict.Accepted l next = next l
-goOn (verdict.Refused r) l next = refused (numberOf r)
+-- a push that answers 0 goes on with its list
+abbrev pub goOn : ℕ → Lent → (Lent → Said) → Said
+goOn n l next = cond (eqb n 0) (next l) (refused n)
 
 -- one push of a score at a packed start, and then the rest
-abbrev pub thenPush : PackingAnswer → ℕ → Float → Lent → (Lent → Said) → Said
-thenPush (pack.Refused r) k x l next = refused (numberOf r)
-thenPush (pack.Packed p) k x l next = goOn (pushed k (scored (p .0) x) l .verdict) (pushed k (scored (p .0) x) l .list) next
+abbrev pub thenPush : ℕ → Float → Lent → (Lent → Said) → ℕ → Said
+thenPush k x l next p = goOn (verdictNumber (pushed k (scored p x) l .verdict)) (pushed k (scored p x) l .list) next
 
 abbrev pub pairOf : Scored → Pair
 pairOf e = (e .score, startOf (e .packed))
 
 abbrev pub pushing : ℕ → List Pair → Lent → Said
 pushing k [] l = kept (map pairOf (entries l))
-pushing k (p ∷ ps) l = thenPush (packed (p .1) (p .1)) k (p .0) l (pushing k ps)
+pushing k (p ∷ ps) l = saying (thenPush k (p .0) l (pushing k ps)) (Packing.inNumbers (packed (p .1) (p .1)))
 
 -- a place for each push, and nothing kept
 abbrev pub noneKept : List Pair → Lent
@@ -104,8 +100,8 @@ abbrev pub room : List ℕ
 room = 9 ∷ 9 ∷ 9 ∷ 9 ∷ 9 ∷ []
 
 abbrev pub answer : Asked → Said
-answer (range start end) = ofPacking (packed start end)
-answer (ids n b) = ofBlocking (blocked n b room) (offsetsLeft n b room)
+answer (range start end) = packing start end
+answer (ids n b) = blocking n b room
 answer (stepAndCodes vs) = quantizing sayStepAndCodes vs
 answer (codes vs) = quantizing sayCodes vs
 answer (readings vs) = quantizing sayReadings vs
@@ -150,5 +146,5 @@ pages =
 
 -- every page's answer is what the document says
 pub worked-pages : map (λ p. answer (p .asked)) pages ≡ map (λ p. p .said) pages
-unfolding pages packed packOf startLimit lengthLimit startOf blocked fixedOffsets offsetsLeft quantized least greatest atMost inBound byteOf keyOf better settled wellKept verdictOf pushed ofBits ofInt add sub mul div
+unfolding pages packed packOf startLimit lengthLimit startOf blocked fixedOffsets offsetsLeft listLimit blockLimit quantized least greatest atMost inBound byteOf keyOf better settled wellKept verdictOf pushed ofBits ofInt add sub mul div
 worked-pages = refl

@@ -74,9 +74,9 @@ fn add_readings(least: f32, step: f32, codes: &[u8]) {
     }
 }
 
-fn pack(asked: &[u8], start: u64, end: u64) {
+fn pack(asked: &[u8], start: RangeStart, end: u64) {
     say(asked);
-    match PackedPosting::pack(RangeStart(start), end) {
+    match PackedPosting::pack(start, end) {
         PackingAnswer::Packed(p) => {
             say(b"packs to ");
             say_number(p.0);
@@ -116,8 +116,8 @@ fn quantize(asked: &[u8], values: &[f32], codes: &mut [u8]) {
 }
 
 // Pushes a score at a start onto a kept list of at most two.
-fn push(length: &mut u64, packed: &mut [u64], scores: &mut [f32], score: f32, start: u64) {
-    if let PackingAnswer::Packed(p) = PackedPosting::pack(RangeStart(start), start) {
+fn push(length: &mut u64, packed: &mut [u64], scores: &mut [f32], score: f32, start: RangeStart) {
+    if let PackingAnswer::Packed(p) = PackedPosting::pack(start, start.0) {
         let e = Scored::new(p.0, score);
         if let Verdict::Refused(reason) = pushing::push(2, length, packed, scores, e) {
             say_refusal(reason);
@@ -136,10 +136,10 @@ fn push_four() {
     let mut length: u64 = 0;
     let mut packed = [0u64; 2];
     let mut scores = [0.0f32; 2];
-    push(&mut length, &mut packed, &mut scores, 5.0, 10);
-    push(&mut length, &mut packed, &mut scores, 3.0, 0);
-    push(&mut length, &mut packed, &mut scores, 3.0, 20);
-    push(&mut length, &mut packed, &mut scores, 4.0, 30);
+    push(&mut length, &mut packed, &mut scores, 5.0, RangeStart(10));
+    push(&mut length, &mut packed, &mut scores, 3.0, RangeStart(0));
+    push(&mut length, &mut packed, &mut scores, 3.0, RangeStart(20));
+    push(&mut length, &mut packed, &mut scores, 4.0, RangeStart(30));
     say(b"push, k = 2: 5 at 10, 3 at 0, 3 at 20, 4 at 30: keeps");
     say_kept(packed[0], scores[0]);
     say(b",");
@@ -211,15 +211,19 @@ fn least_above_zero() -> f32 {
 }
 
 fn pack_all() {
-    pack(b"pack 3..7: ", 3, 7);
+    pack(b"pack 3..7: ", RangeStart(3), 7);
     pack(
         b"pack start 2^48-1, length 0: ",
-        0xffff_ffff_ffff,
+        RangeStart(0xffff_ffff_ffff),
         0xffff_ffff_ffff,
     );
-    pack(b"pack start 2^48: ", 0x1_0000_0000_0000, 0x1_0000_0000_0000);
-    pack(b"pack length 65535: ", 0, 65535);
-    pack(b"pack length 65536: ", 0, 65536);
+    pack(
+        b"pack start 2^48: ",
+        RangeStart(0x1_0000_0000_0000),
+        0x1_0000_0000_0000,
+    );
+    pack(b"pack length 65535: ", RangeStart(0), 65535);
+    pack(b"pack length 65536: ", RangeStart(0), 65536);
 }
 
 fn block_all() {

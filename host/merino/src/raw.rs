@@ -1,8 +1,8 @@
 //! The C functions themselves, for callers that lend their own buffers.
 //!
 //! `include/merino.h` says what each parameter is and what each buffer holds after each outcome. A slice crosses as a pointer and a
-//! number of elements. Each function answers 0 where the call is accepted, else the number of its refusal. They are `unsafe` for one
-//! reason: the pointers have to be what they are said to be, and what is written may overlap nothing else.
+//! number of elements. Each function answers 0 where the call is accepted, else the number of its refusal, as [`crate::Refusal`] has it.
+//! They are `unsafe` for one reason: the pointers have to be what they are said to be, and what is written may overlap nothing else.
 
 extern "C" {
     /// Pushes an entry onto a kept list; [`crate::KeptList::push`] is the same in safe Rust.

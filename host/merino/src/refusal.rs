@@ -1,4 +1,4 @@
-//! Why a call is refused.
+//! Why a call is refused. The numbers are defined in crates/refusal/specs/Refusals.antt; tests/numbers.rs holds this table against them.
 use std::fmt;
 
 macro_rules! refusals {

@@ -6,7 +6,6 @@ use mathlib.Core.List.{[]}
 use native.Mathlib.Omega.{arith}
 use lib.ListN.{length, drop}
 use borrow.Author.Needs.{needs}
-use Rattle.packing.specs.Packing.{startLimit, lengthLimit}
 use Rattle.documents.specs.Documents.{documents}
 use Rattle.admission.specs.Admission.{startsFit, lengthsFit}
 use Rattle.admission.proofs.Laws.{range-ordered, start-step, length-step, every-end, both-fit}
@@ -22,17 +21,27 @@ abbrev μ-loop : tie.MeasureT-loop
 loop-holds : tie.Need-loop-holds Inv-loop μ-loop
 loop-holds c = (omega arith, refl, refl)
 
-mul-lengths : tie.Need-mul-lengths Inv-loop μ-loop
-mul-lengths c = search needs
+mul-length-fits : tie.Need-mul-length-fits Inv-loop μ-loop
+mul-length-fits c = search needs
 
-shared-slice-read-lengths : tie.Need-shared-slice-read-lengths Inv-loop μ-loop
-shared-slice-read-lengths c = search needs
+shared-slice-read-length-fits : tie.Need-shared-slice-read-length-fits Inv-loop μ-loop
+shared-slice-read-length-fits c = search needs
 
 range-of-requires : tie.Need-range-of-requires Inv-loop μ-loop
 range-of-requires c κs = search needs
 
-sub-lengths : tie.Need-sub-lengths Inv-loop μ-loop
-sub-lengths c = let l = c .before .before .before .before .loop in let a = c .before .before .before .before .before .before .before .args in range-ordered (a .offsets .now) (a .ids .now) (l .i) (c .before .range-of .result) (c .before .range-of .ensures)
+start-fits-requires : tie.Need-start-fits-requires Inv-loop μ-loop
+start-fits-requires c κs = search needs
+
+sub-length-fits : tie.Need-sub-length-fits Inv-loop μ-loop
+sub-length-fits c =
+    let start : tie.Start Inv-loop μ-loop = search needs in
+    let at-loop : tie.At-loop Inv-loop μ-loop = search needs in
+    let at-range : tie.After-range-of Inv-loop μ-loop = search needs in
+    range-ordered (start .args .offsets .now) (start .args .ids .now) (at-loop .loop .i) (at-range .range-of .result) (at-range .range-of .ensures)
+
+length-fits-requires : tie.Need-length-fits-requires Inv-loop μ-loop
+length-fits-requires c κs = search needs
 
 add-i : tie.Need-add-i Inv-loop μ-loop
 add-i c = search needs
@@ -41,8 +50,16 @@ loop-less : tie.Need-loop-less Inv-loop μ-loop
 loop-less c = search needs
 
 loop-again : tie.Need-loop-again Inv-loop μ-loop
-unfolding startLimit lengthLimit
-loop-again c = let l = c .before .before .before .before .loop in let a = c .before .before .before .before .before .before .before .args in let e = c .before .range-of .ensures in (omega arith, start-step (a .offsets .now) (a .ids .now) (l .i) (c .before .range-of .result) e (l .starts) (omega arith) ∙ l .inv .1, length-step (a .offsets .now) (a .ids .now) (l .i) (c .before .range-of .result) e (l .lengths) (omega arith) ∙ l .inv .2)
+loop-again c =
+    let start : tie.Start Inv-loop μ-loop = search needs in
+    let at-loop : tie.At-loop Inv-loop μ-loop = search needs in
+    let at-range : tie.After-range-of Inv-loop μ-loop = search needs in
+    let at-start : tie.After-start-fits Inv-loop μ-loop = search needs in
+    let at-length : tie.After-length-fits Inv-loop μ-loop = search needs in
+    let a = start .args in
+    let l = at-loop .loop in
+    let r = at-range .range-of in
+    (omega arith, start-step (a .offsets .now) (a .ids .now) (l .i) (r .result) (r .ensures) (l .starts) _ (at-start .start-fits .ensures) (omega arith) ∙ l .inv .1, length-step (a .offsets .now) (a .ids .now) (l .i) (r .result) (r .ensures) (l .lengths) _ (at-length .length-fits .ensures) (omega arith) ∙ l .inv .2)
 
 returns : tie.Need-returns Inv-loop μ-loop
 returns c = let l = c .before .loop in let a = c .before .before .before .before .args in both-fit (a .offsets .now) (a .ids .now) (l .starts) (l .lengths) (every-end _ (l .starts) (a .ids .now) (l .i) _ (omega arith) (l .inv .1)) (every-end _ (l .lengths) (a .ids .now) (l .i) _ (omega arith) (l .inv .2))
@@ -54,10 +71,12 @@ ranges-fit-spec =
     Inv-loop
     μ-loop
     loop-holds
-    mul-lengths
-    shared-slice-read-lengths
+    mul-length-fits
+    shared-slice-read-length-fits
     range-of-requires
-    sub-lengths
+    start-fits-requires
+    sub-length-fits
+    length-fits-requires
     add-i
     loop-less
     loop-again

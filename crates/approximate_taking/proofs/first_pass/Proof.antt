@@ -53,10 +53,10 @@ loop-again : tie.Need-loop-again Inv-loop μ-loop
 loop-again c = let l = c .before .before .before .before .before .before .before .before .before .loop in let a = c .before .before .before .before .before .before .before .before .before .before .before .before .before .before .before .before .before .before .before .before .before .before .before .before .before .before .before .args in let z = c .before .before .before .before .before .before .before .before .before .before .before .before .before .clear-f32 in let r = c .before .before .before .before .near-rank in (
   r .kept .1 .1 .1 .1 .1 .1 .1 .1 .1 .1 .1 .0 ∙ l .inv .0,
   r .kept .1 .1 .1 .1 .1 .1 .1 .1 .1 .1 .1 .1 .0 ∙ l .inv .1,
-  length-set (l .taken) (l .i) (r .result) ∙ l .inv .2,
+  length-set (l .taken) (l .i) (r .result .0) ∙ l .inv .2,
   omega (arith, c .before .before .before .before .before .before .before .before .loop-test .taken),
   taken-first (a .known .now) (a .cut) (a .first .0) (a .competing .now) (documents (a .starts .now) (a .slots .now) (a .weights .now)) (length (z .last .0)) (length (a .keys .now)) (documents (a .offsets .now) (a .components .now) (a .values .now)) (a .ids .now) (a .taken .now) (l .taken) (l .i)
-      (length (l .scores)) (length (l .keys)) (r .result) (l .inv .4) (omega (arith, c .before .before .before .before .before .before .before .before .loop-test .taken, c .before .before .before .before .before .before .before .before .before .before .shorter .ensures)) (omega (arith, c .before .before .before .before .before .before .before .before .loop-test .taken, c .before .before .before .before .before .before .before .before .before .before .shorter .ensures)) (l .inv .0) (l .inv .1) (r .ensures .0),
+      (length (l .scores)) (length (l .keys)) (r .result .0) (l .inv .4) (omega (arith, c .before .before .before .before .before .before .before .before .loop-test .taken, c .before .before .before .before .before .before .before .before .before .before .shorter .ensures)) (omega (arith, c .before .before .before .before .before .before .before .before .loop-test .taken, c .before .before .before .before .before .before .before .before .before .before .shorter .ensures)) (l .inv .0) (l .inv .1) (r .ensures .0),
   r .ensures .1 ∙ ap (λ n. replicate n none) (l .inv .0),
 )
 

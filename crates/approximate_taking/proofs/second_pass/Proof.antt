@@ -28,20 +28,20 @@ shorter-requires c κs = search needs
 loop-holds : tie.Need-loop-holds Inv-loop μ-loop
 loop-holds c = let a = c .before .before .before .before .before .before .before .before .before .before .before .before .before .before .before .before .before .before .args in let z = c .before .before .before .clear-f32 in (refl, refl, refl, omega arith, over-start (againRank (a .known .now) (a .counts .now) (a .minimum) (a .cut) (a .first .0) (a .competing .now) (documents (a .starts .now) (a .slots .now) (a .weights .now)) (length (z .last .0)) (length (a .keys .now)) (documents (a .offsets .now) (a .components .now) (a .values .now))) (a .ids .now) (a .taken .now), z .ensures ∙ ap (λ n. replicate n none) (sym (z .kept .0)))
 
-mul-is-small : tie.Need-mul-is-small Inv-loop μ-loop
-mul-is-small c = scaled-fits (c .before .loop .i) (length (c .before .before .before .before .before .before .before .before .before .before .before .before .before .before .before .before .before .before .before .before .args .ids .now)) 8 (omega (arith, c .loop-test .taken, c .before .before .shorter .ensures)) (c .before .before .before .before .before .before .before .before .before .before .before .before .before .before .before .before .before .before .before .before .good .1 .1 .1 .0 .1)
+mul-t27 : tie.Need-mul-t27 Inv-loop μ-loop
+mul-t27 c = scaled-fits (c .before .loop .i) (length (c .before .before .before .before .before .before .before .before .before .before .before .before .before .before .before .before .before .before .before .before .args .ids .now)) 8 (omega (arith, c .loop-test .taken, c .before .before .shorter .ensures)) (c .before .before .before .before .before .before .before .before .before .before .before .before .before .before .before .before .before .before .before .before .good .1 .1 .1 .0 .1)
 
-slice-read-is-small : tie.Need-slice-read-is-small Inv-loop μ-loop
-slice-read-is-small c = omega (arith, c .before .loop-test .taken, c .before .before .before .shorter .ensures, c .before .before .loop .inv .2)
+slice-read-t29 : tie.Need-slice-read-t29 Inv-loop μ-loop
+slice-read-t29 c = omega (arith, c .before .loop-test .taken, c .before .before .before .shorter .ensures, c .before .before .loop .inv .2)
 
 is-small-requires : tie.Need-is-small-requires Inv-loop μ-loop
 is-small-requires c κs = search needs
 
-mul-t30 : tie.Need-mul-t30 Inv-loop μ-loop
-mul-t30 c = scaled-fits (c .before .before .before .before .loop .i) (length (c .before .before .before .before .before .before .before .before .before .before .before .before .before .before .before .before .before .before .before .before .before .before .before .args .ids .now)) 8 (omega (arith, c .before .before .before .loop-test .taken, c .before .before .before .before .before .shorter .ensures)) (c .before .before .before .before .before .before .before .before .before .before .before .before .before .before .before .before .before .before .before .before .before .before .before .good .1 .1 .1 .0 .1)
+mul-t31 : tie.Need-mul-t31 Inv-loop μ-loop
+mul-t31 c = scaled-fits (c .before .before .before .before .loop .i) (length (c .before .before .before .before .before .before .before .before .before .before .before .before .before .before .before .before .before .before .before .before .before .before .before .args .ids .now)) 8 (omega (arith, c .before .before .before .loop-test .taken, c .before .before .before .before .before .shorter .ensures)) (c .before .before .before .before .before .before .before .before .before .before .before .before .before .before .before .before .before .before .before .before .before .before .before .good .1 .1 .1 .0 .1)
 
-shared-slice-read-t32 : tie.Need-shared-slice-read-t32 Inv-loop μ-loop
-shared-slice-read-t32 c = omega (arith, c .before .before .before .before .loop-test .taken, c .before .before .before .before .before .before .shorter .ensures)
+shared-slice-read-t33 : tie.Need-shared-slice-read-t33 Inv-loop μ-loop
+shared-slice-read-t33 c = omega (arith, c .before .before .before .before .loop-test .taken, c .before .before .before .before .before .before .shorter .ensures)
 
 near-rank-requires : tie.Need-near-rank-requires Inv-loop μ-loop
 near-rank-requires c κs = let l = c .before .before .before .before .before .before .before .loop in l .inv .5 ∙ ap (λ n. replicate n none) (sym (l .inv .0))
@@ -63,10 +63,10 @@ loop-again c = let l = c .before .before .before .before .loop in let a = c .bef
     (λ w. let r = w .4 in (
       ap length (w .9) ∙ r .kept .1 .1 .1 .1 .1 .1 .1 .1 .1 .1 .1 .0 ∙ l .inv .0,
       ap length (w .10) ∙ r .kept .1 .1 .1 .1 .1 .1 .1 .1 .1 .1 .1 .1 .0 ∙ l .inv .1,
-      ap length (w .11) ∙ length-set (l .taken) (l .i) (r .result) ∙ l .inv .2,
+      ap length (w .11) ∙ length-set (l .taken) (l .i) (r .result .0) ∙ l .inv .2,
       omega (arith, c .before .before .before .loop-test .taken),
       w .11 ∙ taken-again (a .known .now) (a .counts .now) (a .minimum) (a .cut) (a .first .0) (a .competing .now) (documents (a .starts .now) (a .slots .now) (a .weights .now)) (length (z .last .0)) (length (a .keys .now)) (documents (a .offsets .now) (a .components .now) (a .values .now)) (a .ids .now) (a .taken .now) (l .taken) (l .i)
-          (length (l .scores)) (length (l .keys)) (r .result) (s .result) (l .inv .4) (omega (arith, c .before .before .before .loop-test .taken, c .before .before .before .before .before .shorter .ensures)) (omega (arith, c .before .before .before .loop-test .taken, c .before .before .before .before .before .shorter .ensures)) (l .inv .0) (l .inv .1) (s .ensures) (w .0 .taken) (r .ensures .0),
+          (length (l .scores)) (length (l .keys)) (r .result .0) (s .result) (l .inv .4) (omega (arith, c .before .before .before .loop-test .taken, c .before .before .before .before .before .shorter .ensures)) (omega (arith, c .before .before .before .loop-test .taken, c .before .before .before .before .before .shorter .ensures)) (l .inv .0) (l .inv .1) (s .ensures) (w .0 .taken) (r .ensures .0),
       w .9 ∙ r .ensures .1 ∙ ap (λ n. replicate n none) (l .inv .0),
     ))
     (λ w. (
@@ -109,11 +109,11 @@ second-pass-spec =
     clear-f32-requires
     shorter-requires
     loop-holds
-    mul-is-small
-    slice-read-is-small
+    mul-t27
+    slice-read-t29
     is-small-requires
-    mul-t30
-    shared-slice-read-t32
+    mul-t31
+    shared-slice-read-t33
     near-rank-requires
     mul-taken
     slice-write-taken

@@ -28,7 +28,7 @@ same-length-3 : tie.Need-same-length-3
 same-length-3 c = c .before .before .before .before .before .before .before .before .summarize .kept .1 .1 .1 .1 .1 .1 .1 .1 .0
 
 returns : tie.Need-returns
-returns c = let a = c .before .before .before .before .before .before .before .before .before .before .before .before .before .before .before .before .before .before .before .before .before .before .args in refused-turn (a .dimension) (a .strategy) (documents (a .offsets .now) (a .components .now) (a .values .now)) (a .block .now) (a .b) (noted (a .counts .now) (a .minimums .now) (a .steps .now)) (refused-fails (a .dimension) (a .strategy) (documents (a .offsets .now) (a .components .now) (a .values .now)) (a .block .now) (a .keys .now) (a .places .now) (a .maxima .now) (c .before .before .before .before .before .before .before .before .before .before .before .before .before .before .before .before .before .before .before .before .before .before .pre) (c .before .before .before .before .before .before .before .before .summarize .result) _ _ _ (c .before .before .before .before .before .before .before .before .summarize .ensures) _ (c .enum-told .given .1))
+returns c = let a = c .before .before .before .before .before .before .before .before .before .before .before .before .before .before .before .before .before .before .before .before .before .before .args in refused-turn (a .dimension) (a .strategy) (documents (a .offsets .now) (a .components .now) (a .values .now)) (a .block .now) (a .number .0) (noted (a .counts .now) (a .minimums .now) (a .steps .now)) (refused-fails (a .dimension) (a .strategy) (documents (a .offsets .now) (a .components .now) (a .values .now)) (a .block .now) (a .keys .now) (a .places .now) (a .maxima .now) (c .before .before .before .before .before .before .before .before .before .before .before .before .before .before .before .before .before .before .before .before .before .before .pre) (c .before .before .before .before .before .before .before .before .summarize .result) _ _ _ (c .before .before .before .before .before .before .before .before .summarize .ensures) _ (c .enum-told .given .1))
 
 same-length-4 : tie.Need-same-length-4
 same-length-4 c = c .before .before .before .before .before .before .before .before .before .before .summarize .kept .1 .1 .1 .1 .1 .1 .0
@@ -40,7 +40,7 @@ same-length-6 : tie.Need-same-length-6
 same-length-6 c = c .before .before .before .before .before .before .before .before .before .before .summarize .kept .1 .1 .1 .1 .1 .1 .1 .1 .0
 
 returns-2 : tie.Need-returns-2
-returns-2 c = let a = c .before .before .before .before .before .before .before .before .before .before .before .before .before .before .before .before .before .before .before .before .before .before .before .before .args in empty-turn (a .dimension) (a .strategy) (documents (a .offsets .now) (a .components .now) (a .values .now)) (a .block .now) (a .b) (noted (a .counts .now) (a .minimums .now) (a .steps .now)) (kept-holds (a .dimension) (a .strategy) (documents (a .offsets .now) (a .components .now) (a .values .now)) (a .block .now) (a .keys .now) (a .places .now) (a .maxima .now) (c .before .before .before .before .before .before .before .before .before .before .before .before .before .before .before .before .before .before .before .before .before .before .before .before .pre) (c .before .before .before .before .before .before .before .before .before .before .summarize .result) _ _ _ (c .before .before .before .before .before .before .before .before .before .before .summarize .ensures) _ (c .before .before .summarized .given .1)) _ (kept-count (a .dimension) (a .strategy) (documents (a .offsets .now) (a .components .now) (a .values .now)) (a .block .now) (a .keys .now) (a .places .now) (a .maxima .now) (c .before .before .before .before .before .before .before .before .before .before .before .before .before .before .before .before .before .before .before .before .before .before .before .before .pre) (c .before .before .before .before .before .before .before .before .before .before .summarize .result) _ _ _ (c .before .before .before .before .before .before .before .before .before .before .summarize .ensures) _ (c .before .before .summarized .given .1)) (c .if1 .taken)
+returns-2 c = let a = c .before .before .before .before .before .before .before .before .before .before .before .before .before .before .before .before .before .before .before .before .before .before .before .before .args in empty-turn (a .dimension) (a .strategy) (documents (a .offsets .now) (a .components .now) (a .values .now)) (a .block .now) (a .number .0) (noted (a .counts .now) (a .minimums .now) (a .steps .now)) (kept-holds (a .dimension) (a .strategy) (documents (a .offsets .now) (a .components .now) (a .values .now)) (a .block .now) (a .keys .now) (a .places .now) (a .maxima .now) (c .before .before .before .before .before .before .before .before .before .before .before .before .before .before .before .before .before .before .before .before .before .before .before .before .pre) (c .before .before .before .before .before .before .before .before .before .before .summarize .result) _ _ _ (c .before .before .before .before .before .before .before .before .before .before .summarize .ensures) _ (c .before .before .summarized .given .1)) _ (kept-count (a .dimension) (a .strategy) (documents (a .offsets .now) (a .components .now) (a .values .now)) (a .block .now) (a .keys .now) (a .places .now) (a .maxima .now) (c .before .before .before .before .before .before .before .before .before .before .before .before .before .before .before .before .before .before .before .before .before .before .before .before .pre) (c .before .before .before .before .before .before .before .before .before .before .summarize .result) _ _ _ (c .before .before .before .before .before .before .before .before .before .before .summarize .ensures) _ (c .before .before .summarized .given .1)) (c .if1 .taken)
 
 slice-reshare-prefix-note : tie.Need-slice-reshare-prefix-note
 slice-reshare-prefix-note c = let a = c .before .before .before .before .before .before .before .before .before .before .before .before .before .before .before .before .before .before .before .before .before .before .before .before .args in kept-fits (a .dimension) (a .strategy) (documents (a .offsets .now) (a .components .now) (a .values .now)) (a .block .now) (a .keys .now) (a .places .now) (a .maxima .now) (c .before .before .before .before .before .before .before .before .before .before .before .before .before .before .before .before .before .before .before .before .before .before .before .before .pre) (c .before .before .before .before .before .before .before .before .before .before .summarize .result) _ _ _ (c .before .before .before .before .before .before .before .before .before .before .summarize .ensures) _ (c .before .before .summarized .given .1)
@@ -70,7 +70,7 @@ same-length-12 : tie.Need-same-length-12
 same-length-12 c = c .before .before .before .before .before .before .note .kept .1 .1 .1 .1 .0
 
 returns-3 : tie.Need-returns-3
-returns-3 c = let a = c .before .before .before .before .before .before .before .before .before .before .before .before .before .before .before .before .before .before .before .before .before .before .before .before .before .before .before .before .before .before .before .before .before .before .before .args in counted-turn (a .dimension) (a .strategy) (documents (a .offsets .now) (a .components .now) (a .values .now)) (a .block .now) (a .b) (noted (a .counts .now) (a .minimums .now) (a .steps .now)) (kept-holds (a .dimension) (a .strategy) (documents (a .offsets .now) (a .components .now) (a .values .now)) (a .block .now) (a .keys .now) (a .places .now) (a .maxima .now) (c .before .before .before .before .before .before .before .before .before .before .before .before .before .before .before .before .before .before .before .before .before .before .before .before .before .before .before .before .before .before .before .before .before .before .before .pre) (c .before .before .before .before .before .before .before .before .before .before .before .before .before .before .before .before .before .before .before .before .before .summarize .result) _ _ _ (c .before .before .before .before .before .before .before .before .before .before .before .before .before .before .before .before .before .before .before .before .before .summarize .ensures) _ (c .before .before .before .before .before .before .before .before .before .before .before .before .before .summarized .given .1)) _ (kept-count (a .dimension) (a .strategy) (documents (a .offsets .now) (a .components .now) (a .values .now)) (a .block .now) (a .keys .now) (a .places .now) (a .maxima .now) (c .before .before .before .before .before .before .before .before .before .before .before .before .before .before .before .before .before .before .before .before .before .before .before .before .before .before .before .before .before .before .before .before .before .before .before .pre) (c .before .before .before .before .before .before .before .before .before .before .before .before .before .before .before .before .before .before .before .before .before .summarize .result) _ _ _ (c .before .before .before .before .before .before .before .before .before .before .before .before .before .before .before .before .before .before .before .before .before .summarize .ensures) _ (c .before .before .before .before .before .before .before .before .before .before .before .before .before .summarized .given .1)) (c .before .before .before .before .before .before .before .before .before .before .before .if1 .left) (top-held (a .strategy) (documents (a .offsets .now) (a .components .now) (a .values .now)) (a .block .now) (λ k. c .before .before .before .before .before .before .before .before .before .before .before .before .before .before .before .before .before .before .before .before .before .before .before .before .before .before .before .before .before .before .before .before .before .shared-slice-known2 .given k .fits) (λ k. c .before .before .before .before .before .before .before .before .before .before .before .before .before .before .before .before .before .before .before .before .before .before .before .before .before .before .before .before .before .before .before .before .shared-slice-known3 .given k)) _ (kept-front (a .dimension) (a .strategy) (documents (a .offsets .now) (a .components .now) (a .values .now)) (a .block .now) (a .keys .now) (a .places .now) (a .maxima .now) (c .before .before .before .before .before .before .before .before .before .before .before .before .before .before .before .before .before .before .before .before .before .before .before .before .before .before .before .before .before .before .before .before .before .before .before .pre) (c .before .before .before .before .before .before .before .before .before .before .before .before .before .before .before .before .before .before .before .before .before .summarize .result) _ _ _ (c .before .before .before .before .before .before .before .before .before .before .before .before .before .before .before .before .before .before .before .before .before .summarize .ensures) _ (c .before .before .before .before .before .before .before .before .before .before .before .before .before .summarized .given .1)) _ (c .before .before .before .before .before .before .note .ensures)
+returns-3 c = let a = c .before .before .before .before .before .before .before .before .before .before .before .before .before .before .before .before .before .before .before .before .before .before .before .before .before .before .before .before .before .before .before .before .before .before .before .args in counted-turn (a .dimension) (a .strategy) (documents (a .offsets .now) (a .components .now) (a .values .now)) (a .block .now) (a .number .0) (noted (a .counts .now) (a .minimums .now) (a .steps .now)) (kept-holds (a .dimension) (a .strategy) (documents (a .offsets .now) (a .components .now) (a .values .now)) (a .block .now) (a .keys .now) (a .places .now) (a .maxima .now) (c .before .before .before .before .before .before .before .before .before .before .before .before .before .before .before .before .before .before .before .before .before .before .before .before .before .before .before .before .before .before .before .before .before .before .before .pre) (c .before .before .before .before .before .before .before .before .before .before .before .before .before .before .before .before .before .before .before .before .before .summarize .result) _ _ _ (c .before .before .before .before .before .before .before .before .before .before .before .before .before .before .before .before .before .before .before .before .before .summarize .ensures) _ (c .before .before .before .before .before .before .before .before .before .before .before .before .before .summarized .given .1)) _ (kept-count (a .dimension) (a .strategy) (documents (a .offsets .now) (a .components .now) (a .values .now)) (a .block .now) (a .keys .now) (a .places .now) (a .maxima .now) (c .before .before .before .before .before .before .before .before .before .before .before .before .before .before .before .before .before .before .before .before .before .before .before .before .before .before .before .before .before .before .before .before .before .before .before .pre) (c .before .before .before .before .before .before .before .before .before .before .before .before .before .before .before .before .before .before .before .before .before .summarize .result) _ _ _ (c .before .before .before .before .before .before .before .before .before .before .before .before .before .before .before .before .before .before .before .before .before .summarize .ensures) _ (c .before .before .before .before .before .before .before .before .before .before .before .before .before .summarized .given .1)) (c .before .before .before .before .before .before .before .before .before .before .before .if1 .left) (top-held (a .strategy) (documents (a .offsets .now) (a .components .now) (a .values .now)) (a .block .now) (λ k. c .before .before .before .before .before .before .before .before .before .before .before .before .before .before .before .before .before .before .before .before .before .before .before .before .before .before .before .before .before .before .before .before .before .shared-slice-known2 .given k .fits) (λ k. c .before .before .before .before .before .before .before .before .before .before .before .before .before .before .before .before .before .before .before .before .before .before .before .before .before .before .before .before .before .before .before .before .shared-slice-known3 .given k)) _ (kept-front (a .dimension) (a .strategy) (documents (a .offsets .now) (a .components .now) (a .values .now)) (a .block .now) (a .keys .now) (a .places .now) (a .maxima .now) (c .before .before .before .before .before .before .before .before .before .before .before .before .before .before .before .before .before .before .before .before .before .before .before .before .before .before .before .before .before .before .before .before .before .before .before .pre) (c .before .before .before .before .before .before .before .before .before .before .before .before .before .before .before .before .before .before .before .before .before .summarize .result) _ _ _ (c .before .before .before .before .before .before .before .before .before .before .before .before .before .before .before .before .before .before .before .before .before .summarize .ensures) _ (c .before .before .before .before .before .before .before .before .before .before .before .before .before .summarized .given .1)) _ (c .before .before .before .before .before .before .note .ensures)
 
 pub count-block-spec : {M : Type 1} → statement M
 count-block-spec =

@@ -29,7 +29,7 @@ same-length-3 : tie.Need-same-length-3
 same-length-3 c = c .before .before .put2 .kept .0
 
 returns : tie.Need-returns
-returns c = let a = c .before .before .before .before .before .before .before .before .before .before .before .before .before .before .before .before .before .before .args in note-is (a .b) (a .counts .now) (a .keys .now) (a .minimums .now) (a .steps .now) _ _ _ (c .before .before .before .before .before .before .before .before .before .extent-of-keys .result) (c .before .before .before .step-of .result) (c .before .before .before .before .before .before .before .before .before .before .before .before .tally .ensures) (c .before .before .before .before .before .before .before .before .before .extent-of-keys .ensures) (c .before .before .before .before .before .before .before .put .ensures) (c .before .before .before .step-of .ensures) (c .before .before .put2 .ensures)
+returns c = let a = c .before .before .before .before .before .before .before .before .before .before .before .before .before .before .before .before .before .before .args in note-is (a .number .0) (a .counts .now) (a .keys .now) (a .minimums .now) (a .steps .now) _ _ _ (c .before .before .before .before .before .before .before .before .before .extent-of-keys .result) (c .before .before .before .step-of .result) (c .before .before .before .before .before .before .before .before .before .before .before .before .tally .ensures) (c .before .before .before .before .before .before .before .before .before .extent-of-keys .ensures) (c .before .before .before .before .before .before .before .put .ensures) (c .before .before .before .step-of .ensures) (c .before .before .put2 .ensures)
 
 pub note-spec : {M : Type 1} → statement M
 note-spec =

@@ -28,22 +28,22 @@ places-requires : tie.Need-places-requires
 places-requires c κs = search needs
 
 mul-documents-hold : tie.Need-mul-documents-hold
-mul-documents-hold c = let a = c .before .before .before .before .before .before .before .before .args in let p = c .places in let o = places-ordered (getD (a .blocks .now) (a .b) 0) (getD (a .blocks .now) (a .b + 1) 0) (length (a .order .now)) (p .result) (p .ensures) in let w = places-within (getD (a .blocks .now) (a .b) 0) (getD (a .blocks .now) (a .b + 1) 0) (length (a .order .now)) (p .result) (p .ensures) in search needs
+mul-documents-hold c = let a = c .before .before .before .before .before .before .before .before .args in let p = c .places in let o = places-ordered (getD (a .blocks .now) (a .number .0) 0) (getD (a .blocks .now) (a .number .0 + 1) 0) (length (a .order .now)) (p .result) (p .ensures) in let w = places-within (getD (a .blocks .now) (a .number .0) 0) (getD (a .blocks .now) (a .number .0 + 1) 0) (length (a .order .now)) (p .result) (p .ensures) in search needs
 
 sub-documents-hold : tie.Need-sub-documents-hold
-sub-documents-hold c = let a = c .before .before .before .before .before .before .before .before .args in let p = c .places in let o = places-ordered (getD (a .blocks .now) (a .b) 0) (getD (a .blocks .now) (a .b + 1) 0) (length (a .order .now)) (p .result) (p .ensures) in let w = places-within (getD (a .blocks .now) (a .b) 0) (getD (a .blocks .now) (a .b + 1) 0) (length (a .order .now)) (p .result) (p .ensures) in search needs
+sub-documents-hold c = let a = c .before .before .before .before .before .before .before .before .args in let p = c .places in let o = places-ordered (getD (a .blocks .now) (a .number .0) 0) (getD (a .blocks .now) (a .number .0 + 1) 0) (length (a .order .now)) (p .result) (p .ensures) in let w = places-within (getD (a .blocks .now) (a .number .0) 0) (getD (a .blocks .now) (a .number .0 + 1) 0) (length (a .order .now)) (p .result) (p .ensures) in search needs
 
 part-documents-hold-start : tie.Need-part-documents-hold-start
-part-documents-hold-start c = let a = c .before .before .before .before .before .before .before .before .args in let p = c .places in let o = places-ordered (getD (a .blocks .now) (a .b) 0) (getD (a .blocks .now) (a .b + 1) 0) (length (a .order .now)) (p .result) (p .ensures) in let w = places-within (getD (a .blocks .now) (a .b) 0) (getD (a .blocks .now) (a .b + 1) 0) (length (a .order .now)) (p .result) (p .ensures) in search needs
+part-documents-hold-start c = let a = c .before .before .before .before .before .before .before .before .args in let p = c .places in let o = places-ordered (getD (a .blocks .now) (a .number .0) 0) (getD (a .blocks .now) (a .number .0 + 1) 0) (length (a .order .now)) (p .result) (p .ensures) in let w = places-within (getD (a .blocks .now) (a .number .0) 0) (getD (a .blocks .now) (a .number .0 + 1) 0) (length (a .order .now)) (p .result) (p .ensures) in search needs
 
 part-documents-hold-end : tie.Need-part-documents-hold-end
-part-documents-hold-end c = let a = c .before .before .before .before .before .before .before .before .args in let p = c .places in let o = places-ordered (getD (a .blocks .now) (a .b) 0) (getD (a .blocks .now) (a .b + 1) 0) (length (a .order .now)) (p .result) (p .ensures) in let w = places-within (getD (a .blocks .now) (a .b) 0) (getD (a .blocks .now) (a .b + 1) 0) (length (a .order .now)) (p .result) (p .ensures) in search needs
+part-documents-hold-end c = let a = c .before .before .before .before .before .before .before .before .args in let p = c .places in let o = places-ordered (getD (a .blocks .now) (a .number .0) 0) (getD (a .blocks .now) (a .number .0 + 1) 0) (length (a .order .now)) (p .result) (p .ensures) in let w = places-within (getD (a .blocks .now) (a .number .0) 0) (getD (a .blocks .now) (a .number .0 + 1) 0) (length (a .order .now)) (p .result) (p .ensures) in search needs
 
 documents-hold-requires : tie.Need-documents-hold-requires
 documents-hold-requires c κs = search needs
 
 returns : tie.Need-returns
-returns c = let a = c .before .before .before .before .before .before .before .before .before .before .args in let p = c .before .before .places in c .documents-hold .ensures ∙ ap (documentsHold (a .dimension) (documents (a .offsets .now) (a .components .now) (a .values .now))) (places-part (getD (a .blocks .now) (a .b) 0) (getD (a .blocks .now) (a .b + 1) 0) (a .order .now) (p .result) (p .ensures))
+returns c = let a = c .before .before .before .before .before .before .before .before .before .before .args in let p = c .before .before .places in c .documents-hold .ensures ∙ ap (documentsHold (a .dimension) (documents (a .offsets .now) (a .components .now) (a .values .now))) (places-part (getD (a .blocks .now) (a .number .0) 0) (getD (a .blocks .now) (a .number .0 + 1) 0) (a .order .now) (p .result) (p .ensures))
 
 pub block-holds-spec : {M : Type 1} → statement M
 block-holds-spec =

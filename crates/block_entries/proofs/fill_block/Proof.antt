@@ -28,16 +28,16 @@ same-length-3 : tie.Need-same-length-3
 same-length-3 c = c .before .before .before .before .before .before .before .before .summarize .kept .1 .1 .1 .1 .1 .1 .1 .1 .0
 
 returns : tie.Need-returns
-returns c = let a = c .before .before .before .before .before .before .before .before .before .before .before .before .before .before .before .before .before .before .before .before .before .before .args in refused-turn (a .dimension) (a .strategy) (documents (a .offsets .now) (a .components .now) (a .values .now)) (a .block .now) (a .b) (lent (a .cursors .now) (a .ids .now) (a .codes .now)) (refused-fails (a .dimension) (a .strategy) (documents (a .offsets .now) (a .components .now) (a .values .now)) (a .block .now) (a .keys .now) (a .places .now) (a .maxima .now) (c .before .before .before .before .before .before .before .before .before .before .before .before .before .before .before .before .before .before .before .before .before .before .pre) (c .before .before .before .before .before .before .before .before .summarize .result) _ _ _ (c .before .before .before .before .before .before .before .before .summarize .ensures) _ (c .enum-told .given .1))
+returns c = let a = c .before .before .before .before .before .before .before .before .before .before .before .before .before .before .before .before .before .before .before .before .before .before .args in refused-turn (a .dimension) (a .strategy) (documents (a .offsets .now) (a .components .now) (a .values .now)) (a .block .now) (a .number .0) (lent (a .cursors .now) (a .ids .now) (a .codes .now)) (refused-fails (a .dimension) (a .strategy) (documents (a .offsets .now) (a .components .now) (a .values .now)) (a .block .now) (a .keys .now) (a .places .now) (a .maxima .now) (c .before .before .before .before .before .before .before .before .before .before .before .before .before .before .before .before .before .before .before .before .before .before .pre .0) (c .before .before .before .before .before .before .before .before .summarize .result) _ _ _ (c .before .before .before .before .before .before .before .before .summarize .ensures) _ (c .enum-told .given .1))
 
 slice-reshare-prefix-place : tie.Need-slice-reshare-prefix-place
-slice-reshare-prefix-place c = let a = c .before .before .before .before .before .before .before .before .before .before .before .before .before .before .before .before .before .before .before .before .before .before .before .args in kept-fits (a .dimension) (a .strategy) (documents (a .offsets .now) (a .components .now) (a .values .now)) (a .block .now) (a .keys .now) (a .places .now) (a .maxima .now) (c .before .before .before .before .before .before .before .before .before .before .before .before .before .before .before .before .before .before .before .before .before .before .before .pre) (c .before .before .before .before .before .before .before .before .before .summarize .result) _ _ _ (c .before .before .before .before .before .before .before .before .before .summarize .ensures) _ (c .before .summarized .given .1)
+slice-reshare-prefix-place c = let a = c .before .before .before .before .before .before .before .before .before .before .before .before .before .before .before .before .before .before .before .before .before .before .before .args in kept-fits (a .dimension) (a .strategy) (documents (a .offsets .now) (a .components .now) (a .values .now)) (a .block .now) (a .keys .now) (a .places .now) (a .maxima .now) (c .before .before .before .before .before .before .before .before .before .before .before .before .before .before .before .before .before .before .before .before .before .before .before .pre .0) (c .before .before .before .before .before .before .before .before .before .summarize .result) _ _ _ (c .before .before .before .before .before .before .before .before .before .summarize .ensures) _ (c .before .summarized .given .1)
 
 slice-aggregate-place : tie.Need-slice-aggregate-place
-slice-aggregate-place c = let a = c .before .before .before .before .before .before .before .before .before .before .before .before .before .before .before .before .before .before .before .before .before .before .before .before .args in sym (length-take-le _ _ (kept-fits (a .dimension) (a .strategy) (documents (a .offsets .now) (a .components .now) (a .values .now)) (a .block .now) (a .keys .now) (a .places .now) (a .maxima .now) (c .before .before .before .before .before .before .before .before .before .before .before .before .before .before .before .before .before .before .before .before .before .before .before .before .pre) (c .before .before .before .before .before .before .before .before .before .before .summarize .result) _ _ _ (c .before .before .before .before .before .before .before .before .before .before .summarize .ensures) _ (c .before .before .summarized .given .1)))
+slice-aggregate-place c = let a = c .before .before .before .before .before .before .before .before .before .before .before .before .before .before .before .before .before .before .before .before .before .before .before .before .args in sym (length-take-le _ _ (kept-fits (a .dimension) (a .strategy) (documents (a .offsets .now) (a .components .now) (a .values .now)) (a .block .now) (a .keys .now) (a .places .now) (a .maxima .now) (c .before .before .before .before .before .before .before .before .before .before .before .before .before .before .before .before .before .before .before .before .before .before .before .before .pre .0) (c .before .before .before .before .before .before .before .before .before .before .summarize .result) _ _ _ (c .before .before .before .before .before .before .before .before .before .before .summarize .ensures) _ (c .before .before .summarized .given .1)))
 
 place-requires : tie.Need-place-requires
-place-requires c κs = tt
+place-requires c κs = let start : tie.Start = search needs in start .pre .1
 
 same-length-4 : tie.Need-same-length-4
 same-length-4 c = c .before .before .before .before .before .before .before .before .before .before .before .before .before .before .before .before .before .before .before .before .summarize .kept .1 .1 .1 .1 .1 .1 .0
@@ -58,7 +58,7 @@ same-length-9 : tie.Need-same-length-9
 same-length-9 c = c .before .before .before .before .before .before .place .kept .1 .1 .1 .1 .0
 
 returns-2 : tie.Need-returns-2
-returns-2 c = let a = c .before .before .before .before .before .before .before .before .before .before .before .before .before .before .before .before .before .before .before .before .before .before .before .before .before .before .before .before .before .before .before .before .before .before .args in placed-turn (a .dimension) (a .strategy) (documents (a .offsets .now) (a .components .now) (a .values .now)) (a .block .now) (a .b) (lent (a .cursors .now) (a .ids .now) (a .codes .now)) (kept-holds (a .dimension) (a .strategy) (documents (a .offsets .now) (a .components .now) (a .values .now)) (a .block .now) (a .keys .now) (a .places .now) (a .maxima .now) (c .before .before .before .before .before .before .before .before .before .before .before .before .before .before .before .before .before .before .before .before .before .before .before .before .before .before .before .before .before .before .before .before .before .before .pre) (c .before .before .before .before .before .before .before .before .before .before .before .before .before .before .before .before .before .before .before .before .summarize .result) _ _ _ (c .before .before .before .before .before .before .before .before .before .before .before .before .before .before .before .before .before .before .before .before .summarize .ensures) _ (c .before .before .before .before .before .before .before .before .before .before .before .before .summarized .given .1)) (top-held (a .strategy) (documents (a .offsets .now) (a .components .now) (a .values .now)) (a .block .now) (λ k. c .before .before .before .before .before .before .before .before .before .before .before .before .before .before .before .before .before .before .before .before .before .before .before .before .before .before .before .before .before .before .before .before .shared-slice-known2 .given k .fits) (λ k. c .before .before .before .before .before .before .before .before .before .before .before .before .before .before .before .before .before .before .before .before .before .before .before .before .before .before .before .before .before .before .before .shared-slice-known3 .given k)) _ (kept-front (a .dimension) (a .strategy) (documents (a .offsets .now) (a .components .now) (a .values .now)) (a .block .now) (a .keys .now) (a .places .now) (a .maxima .now) (c .before .before .before .before .before .before .before .before .before .before .before .before .before .before .before .before .before .before .before .before .before .before .before .before .before .before .before .before .before .before .before .before .before .before .pre) (c .before .before .before .before .before .before .before .before .before .before .before .before .before .before .before .before .before .before .before .before .summarize .result) _ _ _ (c .before .before .before .before .before .before .before .before .before .before .before .before .before .before .before .before .before .before .before .before .summarize .ensures) _ (c .before .before .before .before .before .before .before .before .before .before .before .before .summarized .given .1)) _ (c .before .before .before .before .before .before .place .ensures)
+returns-2 c = let a = c .before .before .before .before .before .before .before .before .before .before .before .before .before .before .before .before .before .before .before .before .before .before .before .before .before .before .before .before .before .before .before .before .before .before .args in placed-turn (a .dimension) (a .strategy) (documents (a .offsets .now) (a .components .now) (a .values .now)) (a .block .now) (a .number .0) (lent (a .cursors .now) (a .ids .now) (a .codes .now)) (kept-holds (a .dimension) (a .strategy) (documents (a .offsets .now) (a .components .now) (a .values .now)) (a .block .now) (a .keys .now) (a .places .now) (a .maxima .now) (c .before .before .before .before .before .before .before .before .before .before .before .before .before .before .before .before .before .before .before .before .before .before .before .before .before .before .before .before .before .before .before .before .before .before .pre .0) (c .before .before .before .before .before .before .before .before .before .before .before .before .before .before .before .before .before .before .before .before .summarize .result) _ _ _ (c .before .before .before .before .before .before .before .before .before .before .before .before .before .before .before .before .before .before .before .before .summarize .ensures) _ (c .before .before .before .before .before .before .before .before .before .before .before .before .summarized .given .1)) (top-held (a .strategy) (documents (a .offsets .now) (a .components .now) (a .values .now)) (a .block .now) (λ k. c .before .before .before .before .before .before .before .before .before .before .before .before .before .before .before .before .before .before .before .before .before .before .before .before .before .before .before .before .before .before .before .before .shared-slice-known2 .given k .fits) (λ k. c .before .before .before .before .before .before .before .before .before .before .before .before .before .before .before .before .before .before .before .before .before .before .before .before .before .before .before .before .before .before .before .shared-slice-known3 .given k)) _ (kept-front (a .dimension) (a .strategy) (documents (a .offsets .now) (a .components .now) (a .values .now)) (a .block .now) (a .keys .now) (a .places .now) (a .maxima .now) (c .before .before .before .before .before .before .before .before .before .before .before .before .before .before .before .before .before .before .before .before .before .before .before .before .before .before .before .before .before .before .before .before .before .before .pre .0) (c .before .before .before .before .before .before .before .before .before .before .before .before .before .before .before .before .before .before .before .before .summarize .result) _ _ _ (c .before .before .before .before .before .before .before .before .before .before .before .before .before .before .before .before .before .before .before .before .summarize .ensures) _ (c .before .before .before .before .before .before .before .before .before .before .before .before .summarized .given .1)) _ (c .before .before .before .before .before .before .place .ensures)
 
 pub fill-block-spec : {M : Type 1} → statement M
 fill-block-spec =

@@ -1,8 +1,8 @@
--- `blocking::fixed_size_blocking` meets its contract: each answer is the promise of the tests that led to it. Assumes nothing.
+-- `blocking::fixed_size_blocking` meets its contract: each answer is the one of the tests that led to it. Assumes nothing.
 use mathlib.Core.Path.{refl, sym, _∙_}
 use borrow.Author.Needs.{needs}
 use native.Mathlib.Nat.{div-mul-le-self}
-use Rattle.blocking.specs.Promises.{refuses-length, refuses-size, refuses-blocks, refuses-buffer, writes}
+use Rattle.blocking.specs.Laws.{length-refused, size-refused, blocks-refused, buffer-refused, offsets-written}
 use Rattle.blocking.proofs.fixed_size_blocking.Statement.{statement}
 use Rattle.blocking.proofs.fixed_size_blocking.Tie as tie
 
@@ -10,12 +10,12 @@ list-too-long-requires : tie.Need-list-too-long-requires
 list-too-long-requires c κs = search needs
 
 returns : tie.Need-returns
-returns c = refuses-length _ _ _ (sym (c .before .list-too-long .ensures) ∙ c .if1 .taken)
+returns c = length-refused _ _ _ (sym (c .before .list-too-long .ensures) ∙ c .if1 .taken)
 
 returns-2 : tie.Need-returns-2
 returns-2 c =
     let short = sym (c .before .before .list-too-long .ensures) ∙ c .before .if1 .left in
-    refuses-size _ _ _ short (c .if2 .taken)
+    size-refused _ _ _ short (c .if2 .taken)
 
 div-blocks : tie.Need-div-blocks
 div-blocks c = search needs
@@ -26,13 +26,13 @@ too-many-blocks-requires c κs = search needs
 returns-3 : tie.Need-returns-3
 returns-3 c =
     let short = sym (c .before .before .before .before .list-too-long .ensures) ∙ c .before .before .before .if1 .left in
-    refuses-blocks _ _ _ short (c .before .before .if2 .left) (sym (c .before .too-many-blocks .ensures) ∙ c .if3 .taken)
+    blocks-refused _ _ _ short (c .before .before .if2 .left) (sym (c .before .too-many-blocks .ensures) ∙ c .if3 .taken)
 
 returns-4 : tie.Need-returns-4
 returns-4 c =
     let short = sym (c .before .before .before .before .before .list-too-long .ensures) ∙ c .before .before .before .before .if1 .left in
     let few = sym (c .before .before .too-many-blocks .ensures) ∙ c .before .if3 .left in
-    refuses-buffer _ _ _ short (c .before .before .before .if2 .left) few (c .if4 .taken)
+    buffer-refused _ _ _ short (c .before .before .before .if2 .left) few (c .if4 .taken)
 
 write-offsets-requires : tie.Need-write-offsets-requires
 write-offsets-requires c κs = (refl, c .before .if4 .left, div-mul-le-self _ _)
@@ -47,7 +47,7 @@ returns-5 : tie.Need-returns-5
 returns-5 c =
     let short = sym (c .before .before .before .before .before .before .before .before .before .list-too-long .ensures) ∙ c .before .before .before .before .before .before .before .before .if1 .left in
     let few = sym (c .before .before .before .before .before .before .too-many-blocks .ensures) ∙ c .before .before .before .before .before .if3 .left in
-    let done = writes _ _ _ short (c .before .before .before .before .before .before .before .if2 .left) few (c .before .before .before .before .if4 .left) in
+    let done = offsets-written _ _ _ short (c .before .before .before .before .before .before .before .if2 .left) few (c .before .before .before .before .if4 .left) in
     (done .0, c .before .before .write-offsets .ensures ∙ done .1)
 
 pub fixed-size-blocking-spec : {M : Type 1} → statement M

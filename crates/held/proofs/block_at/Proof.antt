@@ -9,8 +9,8 @@ number-at-requires c κs = tt
 dot-at-requires : tie.Need-dot-at-requires
 dot-at-requires c κs = tt
 
-offset-at-requires : tie.Need-offset-at-requires
-offset-at-requires c κs = tt
+start-at-requires : tie.Need-start-at-requires
+start-at-requires c κs = tt
 
 end-at-requires : tie.Need-end-at-requires
 end-at-requires c κs = tt
@@ -18,9 +18,9 @@ end-at-requires c κs = tt
 returns : tie.Need-returns
 returns c =
     let a = c .before .before .before .before .before .before .before .args in
-    block-is (a .offsets .now) (a .dots .now) (c .before .before .before .number-at .result .0) _ _ _ _ (c .before .before .before .number-at .ensures) (c .before .before .dot-at .ensures) (c .before .offset-at .ensures) (c .end-at .ensures)
+    block-is (a .offsets .now) (a .dots .now) (c .before .before .before .number-at .result .0) _ _ _ _ (c .before .before .before .number-at .ensures) (c .before .before .dot-at .ensures) (c .before .start-at .ensures) (c .end-at .ensures)
 
 pub block-at-spec : {M : Type 1} → statement M
 block-at-spec =
     tie.close
-    (tie.spec number-at-requires dot-at-requires offset-at-requires end-at-requires returns)
+    (tie.spec number-at-requires dot-at-requires start-at-requires end-at-requires returns)

@@ -6,11 +6,11 @@ use native.Mathlib.Omega.{arith}
 use Rattle.held.proofs.end_at.Statement.{statement}
 use Rattle.held.proofs.end_at.Tie as tie
 
-add-offset-at : tie.Need-add-offset-at
-add-offset-at c = search needs
+add-entry-at : tie.Need-add-entry-at
+add-entry-at c = search needs
 
-offset-at-requires : tie.Need-offset-at-requires
-offset-at-requires c κs = tt
+entry-at-requires : tie.Need-entry-at-requires
+entry-at-requires c κs = tt
 
 returns : tie.Need-returns
 returns c = search needs
@@ -19,4 +19,4 @@ returns-2 : tie.Need-returns-2
 returns-2 c = sym (List·getD-eq-default (c .before .before .args .offsets .now) 0 (omega arith))
 
 pub end-at-spec : {M : Type 1} → statement M
-end-at-spec = tie.close (tie.spec add-offset-at offset-at-requires returns returns-2)
+end-at-spec = tie.close (tie.spec add-entry-at entry-at-requires returns returns-2)

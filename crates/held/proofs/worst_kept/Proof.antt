@@ -9,14 +9,14 @@ returns : tie.Need-returns
 unfolding div ofBits
 returns c = let a = c .before .before .args in worst-none (a .length) (a .scores .now) (c .if1 .taken)
 
-sub-dot-at : tie.Need-sub-dot-at
-sub-dot-at c = search needs
+sub-score-at : tie.Need-sub-score-at
+sub-score-at c = search needs
 
-dot-at-requires : tie.Need-dot-at-requires
-dot-at-requires c κs = tt
+score-at-requires : tie.Need-score-at-requires
+score-at-requires c κs = tt
 
 returns-2 : tie.Need-returns-2
-returns-2 c = let a = c .before .before .before .args in worst-some (a .length) (a .scores .now) (c .dot-at .result) (c .before .if1 .left) (c .dot-at .ensures)
+returns-2 c = let a = c .before .before .before .args in worst-some (a .length) (a .scores .now) (c .score-at .result) (c .before .if1 .left) (c .score-at .ensures)
 
 pub worst-kept-spec : {M : Type 1} → statement M
-worst-kept-spec = tie.close (tie.spec returns sub-dot-at dot-at-requires returns-2)
+worst-kept-spec = tie.close (tie.spec returns sub-score-at score-at-requires returns-2)

@@ -1,5 +1,5 @@
 -- `list_checks::all_below` meets its contract: an id of 16 bits is below a greater number. Assumes nothing.
-use Prim.Native.Nat.{ℕ, suc, _<_}
+use Prim.Native.Nat.{ℕ, suc, _≤_, _<_, _^_}
 use native.Mathlib.Omega.{arith}
 use mathlib.Core.Path.{_≡_, refl}
 use mathlib.Core.Bool.{true}
@@ -12,7 +12,7 @@ use Rattle.lists.specs.Lists.{every}
 use Rattle.list_checks.proofs.all_below.Statement.{statement}
 use Rattle.list_checks.proofs.all_below.Tie as tie
 
-narrow-below : (ids : List ℕ) (n : ℕ) → ((k : ℕ) → getD ids k 0 < 65536) → 65535 < n → true ≡ every (λ i. ltb i n) ids
+narrow-below : (ids : List ℕ) (n : ℕ) → ((k : ℕ) → getD ids k 0 < 2 ^ 16) → 2 ^ 16 ≤ n → true ≡ every (λ i. ltb i n) ids
 narrow-below [] n f h = refl
 narrow-below (i ∷ ids) n f h = let e = narrow-below ids n (λ k. f (suc k)) h in rw (lt-ltb i n (let a = f 0 in omega arith)) e
 

@@ -7,6 +7,12 @@ use Rattle.list_checks.proofs.is_well_formed.Tie as tie
 add-even : tie.Need-add-even
 add-even c = search needs
 
+too-many-blocks-requires : tie.Need-too-many-blocks-requires
+too-many-blocks-requires c κs = search needs
+
+list-too-long-requires : tie.Need-list-too-long-requires
+list-too-long-requires c κs = search needs
+
 blocks-hold-requires : tie.Need-blocks-hold-requires
 blocks-hold-requires c κs = search needs
 
@@ -26,13 +32,25 @@ steps-hold-requires : tie.Need-steps-hold-requires
 steps-hold-requires c κs = search needs
 
 returns : tie.Need-returns
-returns c = let a = c .before .before .before .before .before .before .before .before .before .before .before .before .before .args in all-hold (a .postings) (a .block-offsets .now) (a .components .now) (a .offsets .now) (a .ids .now) (a .codes .now) (a .minimums .now) (a .steps .now) _ _ _ _ _ _ (c .before .before .before .before .before .blocks-hold .ensures) (c .before .before .before .before .strictly-rise .ensures) (c .before .before .before .offsets-hold .ensures) (c .before .before .ids-hold .ensures) (c .before .minimums-hold .ensures) (c .steps-hold .ensures)
+returns c =
+    let start : tie.Start = search needs in
+    let at-blocks-limit : tie.After-too-many-blocks = search needs in
+    let at-list-limit : tie.After-list-too-long = search needs in
+    let at-blocks : tie.After-blocks-hold = search needs in
+    let at-components : tie.After-strictly-rise = search needs in
+    let at-offsets : tie.After-offsets-hold = search needs in
+    let a = start .args in
+    all-hold (a .postings) (a .block-offsets .now) (a .components .now) (a .offsets .now) (a .ids .now) (a .codes .now) (a .minimums .now) (a .steps .now) _ _ _ _ _ _ _ _
+    (at-blocks-limit .too-many-blocks .ensures) (at-list-limit .list-too-long .ensures) (at-blocks .blocks-hold .ensures) (at-components .strictly-rise .ensures) (at-offsets .offsets-hold .ensures)
+    (c .before .before .ids-hold .ensures) (c .before .minimums-hold .ensures) (c .steps-hold .ensures)
 
 pub is-well-formed-spec : {M : Type 1} → statement M
 is-well-formed-spec =
     tie.close
     (tie.spec
     add-even
+    too-many-blocks-requires
+    list-too-long-requires
     blocks-hold-requires
     strictly-rise-requires
     offsets-hold-requires

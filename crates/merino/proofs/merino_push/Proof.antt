@@ -10,8 +10,8 @@ new-requires c κs = search needs
 push-requires : tie.Need-push-requires
 push-requires c κs = search needs
 
-number-of-requires : tie.Need-number-of-requires
-number-of-requires c κs = search needs
+number-requires : tie.Need-number-requires
+number-requires c κs = search needs
 
 same-length : tie.Need-same-length
 same-length c = search needs
@@ -20,7 +20,7 @@ same-length-2 : tie.Need-same-length-2
 same-length-2 c = search needs
 
 returns : tie.Need-returns
-returns c = push-crosses _ _ _ _ _ _ _ (c .number-of .ensures) (c .before .before .before .before .before .push .ensures) (c .before .before .before .before .before .before .new .ensures)
+returns c = push-crosses _ _ _ _ _ _ _ (c .number .ensures) (c .before .before .before .before .before .push .ensures) (c .before .before .before .before .before .before .new .ensures)
 
 pub merino-push-spec : {M : Type 1} → statement M
-merino-push-spec = tie.close (tie.spec new-requires push-requires number-of-requires same-length same-length-2 returns)
+merino-push-spec = tie.close (tie.spec new-requires push-requires number-requires same-length same-length-2 returns)

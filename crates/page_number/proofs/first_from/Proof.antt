@@ -8,7 +8,7 @@ use Rattle.page_number.proofs.first_from.Statement.{statement}
 use Rattle.page_number.proofs.first_from.Tie as tie
 
 abbrev Inv-loop : tie.InvT-loop
-Inv-loop offsets start count low₀ high₀ low high = (low ≤ high) × (high ≤ count) × ((k : ℕ) → k < low → getD offsets k 0 < start) × ((k : ℕ) → high ≤ k → k < count → start ≤ getD offsets k 0)
+Inv-loop offsets start count low₀ high₀ low high = (low ≤ high) × (high ≤ count) × ((k : ℕ) → k < low → getD offsets k 0 < start .0) × ((k : ℕ) → high ≤ k → k < count → start .0 ≤ getD offsets k 0)
 
 abbrev μ-loop : tie.MeasureT-loop
 μ-loop offsets start count low₀ high₀ low high = high - low
@@ -35,13 +35,23 @@ loop-less : tie.Need-loop-less Inv-loop μ-loop
 loop-less c = search needs
 
 loop-again : tie.Need-loop-again Inv-loop μ-loop
-loop-again c = let l = c .before .before .before .loop in let a = c .before .before .before .before .args in (omega arith, l .inv .1, search-low (a .offsets .now) (a .start) (c .before .before .before .before .pre .1) (l .low + (l .high - l .low) / 2) (omega arith) (c .if1 .taken), l .inv .3)
+loop-again c =
+    let at-loop : tie.At-loop Inv-loop μ-loop = search needs in
+    let start : tie.Start Inv-loop μ-loop = search needs in
+    let l = at-loop .loop in
+    let a = start .args in
+    (omega arith, l .inv .1, search-low (a .offsets .now) (a .start .0) (start .pre .1) (l .low + (l .high - l .low) / 2) (omega arith) (c .if1 .taken), l .inv .3)
 
 loop-less-2 : tie.Need-loop-less-2 Inv-loop μ-loop
 loop-less-2 c = search needs
 
 loop-again-2 : tie.Need-loop-again-2 Inv-loop μ-loop
-loop-again-2 c = let l = c .before .before .before .loop in let a = c .before .before .before .before .args in (omega arith, omega arith, l .inv .2, search-high (a .offsets .now) (a .start) (c .before .before .before .before .pre .1) (a .count) (l .low + (l .high - l .low) / 2) (omega arith) (c .if1 .left))
+loop-again-2 c =
+    let at-loop : tie.At-loop Inv-loop μ-loop = search needs in
+    let start : tie.Start Inv-loop μ-loop = search needs in
+    let l = at-loop .loop in
+    let a = start .args in
+    (omega arith, omega arith, l .inv .2, search-high (a .offsets .now) (a .start .0) (start .pre .1) (a .count) (l .low + (l .high - l .low) / 2) (omega arith) (c .if1 .left))
 
 returns : tie.Need-returns Inv-loop μ-loop
 returns c = let l = c .before .loop in record { within = omega arith; below = l .inv .2; above = λ k h m. l .inv .3 k (omega arith) m }

@@ -1,12 +1,12 @@
 -- `quantized_summary::add_entries` meets its contract. The walk of the entries left, from the scores so far, is the walk of all. Assumes nothing.
 use Rattle.quantized_summary.proofs.Walks.{turn, last-turn}
 use Prim.Native.Nat.{_-_}
-use mathlib.Core.Path.{_≡_, refl, _∙_, sym}
-use lib.ListN.{length}
+use mathlib.Core.Path.{_≡_, refl, _∙_, sym, ap}
+use lib.ListN.{length, getD}
 use borrow.Author.Needs.{needs}
 use lib.Seq.{slice}
-use Rattle.quantized_summary.specs.Layout.{entries}
-use Rattle.quantized_summary.specs.Walk.{grownBy}
+use Rattle.quantized_summary.specs.Layout.{entry, entries}
+use Rattle.quantized_summary.specs.Walk.{grown, grownBy}
 use Rattle.quantized_summary.proofs.add_entries.Statement.{statement}
 use Rattle.quantized_summary.proofs.add_entries.Tie as tie
 
@@ -19,14 +19,17 @@ abbrev μ-loop : tie.MeasureT-loop
 loop-holds : tie.Need-loop-holds Inv-loop μ-loop
 loop-holds c = (refl, refl)
 
-mul-add-entry : tie.Need-mul-add-entry Inv-loop μ-loop
-mul-add-entry c = search needs
+mul-block-of : tie.Need-mul-block-of Inv-loop μ-loop
+mul-block-of c = search needs
+
+shared-slice-read-block-of : tie.Need-shared-slice-read-block-of Inv-loop μ-loop
+shared-slice-read-block-of c = search needs
+
+block-of-requires : tie.Need-block-of-requires Inv-loop μ-loop
+block-of-requires c κs = search needs
 
 shared-slice-read-add-entry : tie.Need-shared-slice-read-add-entry Inv-loop μ-loop
 shared-slice-read-add-entry c = search needs
-
-shared-slice-read-add-entry-2 : tie.Need-shared-slice-read-add-entry-2 Inv-loop μ-loop
-shared-slice-read-add-entry-2 c = search needs
 
 add-entry-requires : tie.Need-add-entry-requires Inv-loop μ-loop
 add-entry-requires c κs = search needs
@@ -38,7 +41,16 @@ loop-less : tie.Need-loop-less Inv-loop μ-loop
 loop-less c = search needs
 
 loop-again : tie.Need-loop-again Inv-loop μ-loop
-loop-again c = let l = c .before .before .before .before .before .before .before .loop in let a = c .before .before .before .before .before .before .before .before .before .before .before .before .before .args in (search needs, turn (a .n) (a .minimums .now) (a .steps .now) (a .value) (a .ids .now) (a .codes .now) (l .i) (a .to) (l .scores) _ (c .before .before .before .before .before .before .loop-test .taken) (search needs) (search needs) (c .before .before .add-entry .ensures) ∙ l .inv .1)
+loop-again c =
+    let at-loop : tie.At-loop Inv-loop μ-loop = search needs in
+    let in-loop : tie.In-loop Inv-loop μ-loop = search needs in
+    let at-block-of : tie.After-block-of Inv-loop μ-loop = search needs in
+    let at-add-entry : tie.After-add-entry Inv-loop μ-loop = search needs in
+    let start : tie.Start Inv-loop μ-loop = search needs in
+    let l = at-loop .loop in
+    let a = start .args in
+    let id = at-block-of .block-of .ensures in
+    (search needs, turn (a .n) (a .minimums .now) (a .steps .now) (a .value) (a .ids .now) (a .codes .now) (l .i) (a .to) (l .scores) _ (in-loop .loop-test .taken) (search needs) (search needs) (at-add-entry .add-entry .ensures ∙ ap (λ b. grown (a .n) (a .minimums .now) (a .steps .now) (a .value) (entry b (getD (a .codes .now) (l .i) 0)) (l .scores)) id) ∙ l .inv .1)
 
 same-length : tie.Need-same-length Inv-loop μ-loop
 same-length c = search needs
@@ -53,9 +65,10 @@ add-entries-spec =
     Inv-loop
     μ-loop
     loop-holds
-    mul-add-entry
+    mul-block-of
+    shared-slice-read-block-of
+    block-of-requires
     shared-slice-read-add-entry
-    shared-slice-read-add-entry-2
     add-entry-requires
     add-i
     loop-less

@@ -35,10 +35,10 @@ same-length : tie.Need-same-length
 same-length c = search needs
 
 returns : tie.Need-returns
-returns c = let a = c .before .before .before .before .before .args in grown-in (a .n) (a .minimums .now) (a .steps .now) (a .value) (a .id) (a .code) (a .scores .now) (search needs)
+returns c = let a = c .before .before .before .before .before .args in grown-in (a .n) (a .minimums .now) (a .steps .now) (a .value) (a .block .0) (a .code) (a .scores .now) (search needs)
 
 returns-2 : tie.Need-returns-2
-returns-2 c = let a = c .before .args in grown-out (a .n) (a .minimums .now) (a .steps .now) (a .value) (a .id) (a .code) (a .scores .now) (c .if1 .left)
+returns-2 c = let a = c .before .args in grown-out (a .n) (a .minimums .now) (a .steps .now) (a .value) (a .block .0) (a .code) (a .scores .now) (c .if1 .left)
 
 pub add-entry-spec : {M : Type 1} → statement M
 add-entry-spec =

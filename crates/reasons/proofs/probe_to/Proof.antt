@@ -12,7 +12,7 @@ use Rattle.reasons.proofs.probe_to.Reads as reads
 use Rattle.reasons.proofs.probe_to.Lts as lts
 use Rattle.probing.proofs.probe.Reads as probe-reads
 use Rattle.reasons.proofs.reached_fate.Reads as reached-fate-reads
-use Rattle.held.proofs.offset_at.Reads as offset-at-reads
+use Rattle.held.proofs.entry_at.Reads as entry-at-reads
 use Rattle.lists.proofs.shorter.Reads as shorter-reads
 
 slice-aggregate-probe : tie.Need-slice-aggregate-probe
@@ -27,8 +27,8 @@ slice-aggregate-probe-3 c = search needs
 probe-requires : tie.Need-probe-requires
 probe-requires c κs = search needs
 
-offset-at-requires : tie.Need-offset-at-requires
-offset-at-requires c κs = search needs
+entry-at-requires : tie.Need-entry-at-requires
+entry-at-requires c κs = search needs
 
 add-bytes : tie.Need-add-bytes
 add-bytes c = omega (arith, c .before .before .before .before .before .before .before .before .before .before .before .before .before .before .before .before .before .before .before .before .before .before .before .good .1 .1 .1 .1 .1 .1 .1 .0)
@@ -55,7 +55,7 @@ same-length-3 : tie.Need-same-length-3
 same-length-3 c = search needs
 
 returns : tie.Need-returns
-returns c = let a = c .before .before .before .before .before .before .before .before .before .before .before .before .before .before .before .before .before .before .before .before .before .before .before .before .before .before .args in fated-in (a .k) (a .factor) (terms (a .asked .now) (a .weights .now) (a .components .now) (a .values .now)) (a .postings .now) (a .first) (a .score) (a .position) (lends (lent (a .length .now) (a .packed .now) (a .scores .now)) (a .visits .now)) _ _ _ (c .before .before .before .before .before .before .before .before .before .before .probe .ensures) (c .before .before .before .offset-at .ensures) _ (c .before .before .shorter .ensures) (c .reached-fate .ensures)
+returns c = let a = c .before .before .before .before .before .before .before .before .before .before .before .before .before .before .before .before .before .before .before .before .before .before .before .before .before .before .args in fated-in (a .k) (a .factor) (terms (a .asked .now) (a .weights .now) (a .components .now) (a .values .now)) (a .postings .now) (a .first) (a .score) (a .position) (lends (lent (a .length .now) (a .packed .now) (a .scores .now)) (a .visits .now)) _ _ _ (c .before .before .before .before .before .before .before .before .before .before .probe .ensures) (c .before .before .before .entry-at .ensures) _ (c .before .before .shorter .ensures) (c .reached-fate .ensures)
 
 pub probe-to-spec : {M : Type 1} → statement M
 probe-to-spec =
@@ -65,7 +65,7 @@ probe-to-spec =
     slice-aggregate-probe-2
     slice-aggregate-probe-3
     probe-requires
-    offset-at-requires
+    entry-at-requires
     add-bytes
     shorter-requires
     slice-reshare-prefix-reached-fate

@@ -7,7 +7,7 @@ use Rattle.reasons.proofs.probed_block.Statement.{statement}
 use Rattle.reasons.proofs.probed_block.Tie as tie
 use Rattle.reasons.proofs.probed_block.Reads as reads
 use Rattle.reasons.proofs.probed_block.Lts as lts
-use Rattle.held.proofs.offset_at.Reads as offset-at-reads
+use Rattle.held.proofs.start_at.Reads as start-at-reads
 
 enum-told : tie.Need-enum-told
 enum-told c = search needs
@@ -15,15 +15,19 @@ enum-told c = search needs
 enum-known-turn : tie.Need-enum-known-turn
 enum-known-turn c = search needs
 
-offset-at-requires : tie.Need-offset-at-requires
-offset-at-requires c κs = search needs
+start-at-requires : tie.Need-start-at-requires
+start-at-requires c κs = search needs
 
 returns : tie.Need-returns
 returns c = let a = c .before .before .before .args in ap (probedBlock (a .blocks .now)) (sym (c .enum-told .given .1))
 
 returns-2 : tie.Need-returns-2
-returns-2 c = let a = c .before .before .before .before .before .before .args in probed-is (a .blocks .now) (a .turn) (c .before .before .before .turn .given .0 .0) _ (c .before .before .before .turn .given .1) (c .offset-at .ensures)
+returns-2 c =
+    let start : tie.Start = search needs in
+    let at-turn : tie.After-turn = search needs in
+    let a = start .args in
+    probed-is (a .blocks .now) (a .turn) (at-turn .turn .given .0 .0) _ (at-turn .turn .given .1) (c .start-at .ensures)
 
 pub probed-block-spec : {M : Type 1} → statement M
 probed-block-spec =
-    tie.close (tie.spec enum-told enum-known-turn offset-at-requires returns returns-2)
+    tie.close (tie.spec enum-told enum-known-turn start-at-requires returns returns-2)

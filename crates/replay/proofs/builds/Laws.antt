@@ -10,10 +10,8 @@ use Rattle.float32.specs.Key.{valueOf}
 use Rattle.configuration.specs.declared.BlockingStrategy.{BlockingStrategy}
 use Rattle.configuration.specs.declared.SummarizationStrategy.{SummarizationStrategy}
 use Rattle.documents.specs.Documents.{documents}
-use Rattle.building.specs.declared.BuiltSizes.{BuiltSizes}
-use Rattle.building.specs.declared.BuildAnswer.{BuildAnswer}
-use Rattle.building.specs.declared.BuildAnswer.the-variants.{Built}
 use Rattle.building.specs.Built.{input}
+use Rattle.building.specs.Building.{InNumbers, numbers, inNumbers}
 use Rattle.short_list.specs.Short.{Made, madeShort}
 use Rattle.build_numbers.specs.Chosen.{blockingOf, summarizationOf}
 use Rattle.recorded.specs.Words.{long, sliceAt}
@@ -36,12 +34,13 @@ four p q r s = rw (p, q, r, s)
 pub held-by : (xs : List ℕ) {es fs : List ℕ} (rest : ℕ) {b : Bool} → es ≡ fs → b ≡ held xs es rest → b ≡ held xs fs rest
 held-by xs rest p e = e ∙ ap (λ l. held xs l rest) p
 
-pub sizes-by : (w : List ℕ) (r : BuildAnswer) (s : BuiltSizes) {a b c d e : List ℕ} → r ≡ Built s → a ≡ sliceAt w 21 w → b ≡ sliceAt w 22 w → c ≡ sliceAt w 23 w → d ≡ sliceAt w 25 w → e ≡ sliceAt w 27 w
-    → eqb (s .postings) (length a) && eqb (s .offsets) (length b) && eqb (s .components) (length c) && eqb (s .entries) (length d) && eqb (s .summaries) (length e) ≡ sizesHeld w r
-sizes-by w r s x p1 p2 p3 p4 p5 = rw (x, p1, p2, p3, p4, p5)
+pub sizes-by : (w : List ℕ) (z : InNumbers) {n p o c e s : ℕ} {us vs xs ys zs : List ℕ}
+    → numbers n p o c e s ≡ z → us ≡ sliceAt w 21 w → vs ≡ sliceAt w 22 w → xs ≡ sliceAt w 23 w → ys ≡ sliceAt w 25 w → zs ≡ sliceAt w 27 w
+    → eqb n 0 && eqb p (length us) && eqb o (length vs) && eqb c (length xs) && eqb e (length ys) && eqb s (length zs) ≡ sizesHeld w z
+sizes-by w z x p1 p2 p3 p4 p5 = rw (p1, p2, p3, p4, p5) (ap (sizesHeld w) x)
 
 -- ---- the whole
-pub agreed-by : (w : List ℕ) (m : Made) {a b c : Bool} → a ≡ sizesHeld w (m .answer) → b ≡ numbersHeld w (m .output .postings) (m .output .offsets) (m .output .components) (m .output .componentOffsets)
+pub agreed-by : (w : List ℕ) (m : Made) {a b c : Bool} → a ≡ sizesHeld w (inNumbers (m .answer)) → b ≡ numbersHeld w (m .output .postings) (m .output .offsets) (m .output .components) (m .output .componentOffsets)
     → c ≡ entriesHeld w (m .output .ids) (m .output .codes) (m .output .minimums) (m .output .steps) → a && b && c ≡ agreed w m
 unfolding agreed
 agreed-by w m p q r = rw (p, q, r)

@@ -7,22 +7,33 @@ use expected::same_shorts;
 use expected::same_words;
 use recorded::words_of;
 ghost use mathlib.Core.Path.{_≡_};
-ghost use Rattle.building.specs.Building.{outputs};
+ghost use Rattle.building.specs.Building.{outputs, inNumbers};
 ghost use Rattle.short_list.specs.Short.{made};
 ghost use Rattle.replay.specs.Case.{sizesHeld, numbersHeld, entriesHeld, agreed};
 
 // Whether the build was accepted, and as many numbers stand in front of the outputs as the original has.
 fn sizes(w: &[u32], answer: BuildAnswer) -> bool
-    ensures { λ r. ⌜ r ≡ sizesHeld (now (w .entry)) answer ⌝ }
+    ensures { λ r. ⌜ r ≡ sizesHeld (now (w .entry)) (inNumbers answer) ⌝ }
 {
-    match answer {
-        BuildAnswer::Refused(_) => false,
-        BuildAnswer::Built(s) => (s.postings == words_of(w, 21).len() as u64)
-            & (s.offsets == words_of(w, 22).len() as u64)
-            & (s.components == words_of(w, 23).len() as u64)
-            & (s.entries == words_of(w, 25).len() as u64)
-            & (s.summaries == words_of(w, 27).len() as u64),
-    }
+    let mut postings = 0u64;
+    let mut offsets = 0u64;
+    let mut components = 0u64;
+    let mut entries = 0u64;
+    let mut summaries = 0u64;
+    let number = build_numbers::show_built(
+        answer,
+        &mut postings,
+        &mut offsets,
+        &mut components,
+        &mut entries,
+        &mut summaries,
+    );
+    (number == 0)
+        & (postings == words_of(w, 21).len() as u64)
+        & (offsets == words_of(w, 22).len() as u64)
+        & (components == words_of(w, 23).len() as u64)
+        & (entries == words_of(w, 25).len() as u64)
+        & (summaries == words_of(w, 27).len() as u64)
 }
 
 // Whether the postings, the offsets and the components are the original's.

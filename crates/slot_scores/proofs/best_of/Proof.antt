@@ -14,10 +14,10 @@ if-better-requires : tie.Need-if-better-requires
 if-better-requires c κs = search needs
 
 returns : tie.Need-returns
-returns c = let a = c .before .before .before .before .args in better-in (a .scores .now) (a .best) (c .if-better .result) (a .slot) (c .before .before .if1 .taken) (c .if-better .ensures)
+returns c = let a = c .before .before .before .before .args in better-in (a .scores .now) (a .best) (c .if-better .result) (a .slot .0) (c .before .before .if1 .taken) (c .if-better .ensures)
 
 returns-2 : tie.Need-returns-2
-returns-2 c = let a = c .before .before .args in better-out (a .scores .now) (a .best) (a .best) (a .slot) (c .if1 .left)
+returns-2 c = let a = c .before .before .args in better-out (a .scores .now) (a .best) (a .best) (a .slot .0) (c .if1 .left)
 
 pub best-of-spec : {M : Type 1} → statement M
 best-of-spec =

@@ -18,11 +18,11 @@ abbrev μ-loop : tie.MeasureT-loop
 loop-holds : tie.Need-loop-holds Inv-loop μ-loop
 loop-holds c = refl
 
-mul-best-of : tie.Need-mul-best-of Inv-loop μ-loop
-mul-best-of c = search needs
+mul-t6 : tie.Need-mul-t6 Inv-loop μ-loop
+mul-t6 c = search needs
 
-shared-slice-read-best-of : tie.Need-shared-slice-read-best-of Inv-loop μ-loop
-shared-slice-read-best-of c = search needs
+shared-slice-read-t9 : tie.Need-shared-slice-read-t9 Inv-loop μ-loop
+shared-slice-read-t9 c = search needs
 
 best-of-requires : tie.Need-best-of-requires Inv-loop μ-loop
 best-of-requires c κs = search needs
@@ -46,8 +46,8 @@ best-slot-spec =
     Inv-loop
     μ-loop
     loop-holds
-    mul-best-of
-    shared-slice-read-best-of
+    mul-t6
+    shared-slice-read-t9
     best-of-requires
     add-i
     loop-less

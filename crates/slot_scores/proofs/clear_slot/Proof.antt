@@ -20,7 +20,7 @@ unfolding ofBits
 returns c = refl
 
 returns-2 : tie.Need-returns-2
-returns-2 c = sym (set-out (c .before .args .scores .now) (c .before .args .slot) _ (c .if1 .left))
+returns-2 c = sym (set-out (c .before .args .scores .now) (c .before .args .slot .0) _ (c .if1 .left))
 
 pub clear-slot-spec : {M : Type 1} → statement M
 clear-slot-spec = tie.close (tie.spec mul-scores slice-write-scores same-length returns returns-2)

@@ -18,11 +18,11 @@ abbrev μ-loop : tie.MeasureT-loop
 loop-holds : tie.Need-loop-holds Inv-loop μ-loop
 loop-holds c = (refl, refl)
 
-mul-clear-slot : tie.Need-mul-clear-slot Inv-loop μ-loop
-mul-clear-slot c = search needs
+mul-t4 : tie.Need-mul-t4 Inv-loop μ-loop
+mul-t4 c = search needs
 
-shared-slice-read-clear-slot : tie.Need-shared-slice-read-clear-slot Inv-loop μ-loop
-shared-slice-read-clear-slot c = search needs
+shared-slice-read-t8 : tie.Need-shared-slice-read-t8 Inv-loop μ-loop
+shared-slice-read-t8 c = search needs
 
 clear-slot-requires : tie.Need-clear-slot-requires Inv-loop μ-loop
 clear-slot-requires c κs = search needs
@@ -49,8 +49,8 @@ clear-slots-spec =
     Inv-loop
     μ-loop
     loop-holds
-    mul-clear-slot
-    shared-slice-read-clear-slot
+    mul-t4
+    shared-slice-read-t8
     clear-slot-requires
     add-i
     loop-less

@@ -21,11 +21,11 @@ abbrev μ-loop : tie.MeasureT-loop
 loop-holds : tie.Need-loop-holds Inv-loop μ-loop
 loop-holds c = (refl, omega arith, omega arith, refl)
 
-mul-push : tie.Need-mul-push Inv-loop μ-loop
-mul-push c = search needs
+mul-t11 : tie.Need-mul-t11 Inv-loop μ-loop
+mul-t11 c = search needs
 
-shared-slice-read-push : tie.Need-shared-slice-read-push Inv-loop μ-loop
-shared-slice-read-push c = search needs
+shared-slice-read-t14 : tie.Need-shared-slice-read-t14 Inv-loop μ-loop
+shared-slice-read-t14 c = search needs
 
 rank-requires : tie.Need-rank-requires Inv-loop μ-loop
 rank-requires c κs = search needs
@@ -33,14 +33,13 @@ rank-requires c κs = search needs
 is-small-requires : tie.Need-is-small-requires Inv-loop μ-loop
 is-small-requires c κs = search needs
 
-mul-push-2 : tie.Need-mul-push-2 Inv-loop μ-loop
-mul-push-2 c = search needs
-
-shared-slice-read-push-2 : tie.Need-shared-slice-read-push-2 Inv-loop μ-loop
-shared-slice-read-push-2 c = search needs
-
 push-requires : tie.Need-push-requires Inv-loop μ-loop
-push-requires c κs = let l = c .before .before .before .before .before .before .loop in omega (arith, c .before .before .before .before .before .before .before .before .before .before .before .pre, l .inv .0, l .inv .1, c .before .before .before .before .before .loop-test .taken)
+push-requires c κs =
+    let at-start : tie.Start Inv-loop μ-loop = search needs in
+    let at-loop : tie.At-loop Inv-loop μ-loop = search needs in
+    let at-test : tie.In-loop Inv-loop μ-loop = search needs in
+    let l = at-loop .loop in
+    omega (arith, at-start .pre, l .inv .0, l .inv .1, at-test .loop-test .taken)
 
 add-i : tie.Need-add-i Inv-loop μ-loop
 add-i c = search needs
@@ -49,12 +48,22 @@ loop-less : tie.Need-loop-less Inv-loop μ-loop
 loop-less c = search needs
 
 loop-again : tie.Need-loop-again Inv-loop μ-loop
-loop-again c = let l = c .before .before .before .before .before .before .before .before .before .loop in let a = c .before .before .before .before .before .before .before .before .before .before .before .before .before .before .args in (
-  search needs,
-  omega (arith, l .inv .1, c .before .before .push .ensures .1),
-  omega (arith, c .before .before .before .before .before .before .before .before .loop-test .taken),
-  gather-step (λ c. isSmall (a .counts .now) (a .minimum) (rankIn (a .known .now) c)) (a .centroids .now) (l .competing) (c .before .before .push .last .1 .1 .0) (l .i) (l .n) (c .before .before .push .result) (c .before .before .before .before .before .is-small .result) (c .before .before .before .before .before .before .before .before .loop-test .taken) (c .before .before .before .before .before .is-small .ensures ∙ ap (isSmall (a .counts .now) (a .minimum)) (c .before .before .before .before .before .before .rank .ensures)) (c .before .before .push .ensures .0) ∙ l .inv .3,
-)
+loop-again c =
+    let at-start : tie.Start Inv-loop μ-loop = search needs in
+    let at-loop : tie.At-loop Inv-loop μ-loop = search needs in
+    let at-test : tie.In-loop Inv-loop μ-loop = search needs in
+    let at-rank : tie.After-rank Inv-loop μ-loop = search needs in
+    let at-small : tie.After-is-small Inv-loop μ-loop = search needs in
+    let at-push : tie.After-push Inv-loop μ-loop = search needs in
+    let a = at-start .args in
+    let l = at-loop .loop in
+    let s = at-small .is-small in
+    let p = at-push .push in (
+      search needs,
+      omega (arith, l .inv .1, p .ensures .1),
+      omega (arith, at-test .loop-test .taken),
+      gather-step (λ c. isSmall (a .counts .now) (a .minimum) (rankIn (a .known .now) c)) (a .centroids .now) (l .competing) (p .last .1 .1 .0) (l .i) (l .n) (p .result) (s .result) (at-test .loop-test .taken) (s .ensures ∙ ap (isSmall (a .counts .now) (a .minimum)) (at-rank .rank .ensures)) (p .ensures .0) ∙ l .inv .3,
+    )
 
 same-length : tie.Need-same-length Inv-loop μ-loop
 same-length c = search needs
@@ -72,12 +81,10 @@ gather-spec =
     Inv-loop
     μ-loop
     loop-holds
-    mul-push
-    shared-slice-read-push
+    mul-t11
+    shared-slice-read-t14
     rank-requires
     is-small-requires
-    mul-push-2
-    shared-slice-read-push-2
     push-requires
     add-i
     loop-less

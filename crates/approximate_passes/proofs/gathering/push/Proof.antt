@@ -6,7 +6,7 @@ use Rattle.approximate_passes.proofs.gathering.push.Statement.{statemen
 use Rattle.approximate_passes.proofs.gathering.push.Tie as tie
 
 returns : tie.Need-returns
-returns c = let a = c .before .args in (not-pushed (a .competing .now) (a .n) (a .centroid) (a .dissolves) (c .if1 .taken), omega arith)
+returns c = let a = c .before .args in (not-pushed (a .competing .now) (a .n) (a .centroid .0) (a .dissolves) (c .if1 .taken), omega arith)
 
 mul-competing : tie.Need-mul-competing
 mul-competing c = search needs
@@ -21,7 +21,7 @@ same-length : tie.Need-same-length
 same-length c = search needs
 
 returns-2 : tie.Need-returns-2
-returns-2 c = let a = c .before .args in (pushed (a .competing .now) (a .n) (a .centroid) (a .dissolves) (c .if1 .left) (c .before .pre), omega arith)
+returns-2 c = let a = c .before .args in (pushed (a .competing .now) (a .n) (a .centroid .0) (a .dissolves) (c .if1 .left) (c .before .pre), omega arith)
 
 pub push-spec : {M : Type 1} → statement M
 push-spec =

@@ -20,8 +20,8 @@ abbrev μ-loop : tie.MeasureT-loop
 loop-holds : tie.Need-loop-holds Inv-loop μ-loop
 loop-holds c = let a = c .before .before .before .before .before .before .before .before .before .before .before .args in (refl, refl, search needs, over-start (λ (j r : ℕ). rankIn (a .known .now) (firstChoice (a .known .now) (a .centroids .now) (documents (a .starts .now) (a .slots .now) (a .weights .now)) (length (a .scores .now)) (documents (a .offsets .now) (a .components .now) (a .values .now)) j)) (a .ids .now) (a .taken .now))
 
-mul-t13 : tie.Need-mul-t13 Inv-loop μ-loop
-mul-t13 c = search needs
+mul-t14 : tie.Need-mul-t14 Inv-loop μ-loop
+mul-t14 c = search needs
 
 shared-slice-read-t17 : tie.Need-shared-slice-read-t17 Inv-loop μ-loop
 shared-slice-read-t17 c = search needs
@@ -67,7 +67,7 @@ first-pass-spec =
     Inv-loop
     μ-loop
     loop-holds
-    mul-t13
+    mul-t14
     shared-slice-read-t17
     first-rank-requires
     mul-taken

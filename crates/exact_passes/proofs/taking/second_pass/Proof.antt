@@ -19,17 +19,17 @@ abbrev μ-loop : tie.MeasureT-loop
 loop-holds : tie.Need-loop-holds Inv-loop μ-loop
 loop-holds c = let a = c .before .before .before .before .before .before .before .before .before .before .before .before .args in (refl, refl, search needs, over-start (secondRank (a .known .now) (a .counts .now) (a .minimum) (a .centroids .now) (documents (a .starts .now) (a .slots .now) (a .weights .now)) (length (a .scores .now)) (documents (a .offsets .now) (a .components .now) (a .values .now))) (a .ids .now) (a .taken .now))
 
-mul-own : tie.Need-mul-own Inv-loop μ-loop
-mul-own c = search needs
+mul-t17 : tie.Need-mul-t17 Inv-loop μ-loop
+mul-t17 c = search needs
 
-slice-read-own : tie.Need-slice-read-own Inv-loop μ-loop
-slice-read-own c = search needs
+slice-read-t20 : tie.Need-slice-read-t20 Inv-loop μ-loop
+slice-read-t20 c = search needs
 
-mul-t16 : tie.Need-mul-t16 Inv-loop μ-loop
-mul-t16 c = search needs
+mul-t17-2 : tie.Need-mul-t17-2 Inv-loop μ-loop
+mul-t17-2 c = search needs
 
-shared-slice-read-t21 : tie.Need-shared-slice-read-t21 Inv-loop μ-loop
-shared-slice-read-t21 c = search needs
+shared-slice-read-t20 : tie.Need-shared-slice-read-t20 Inv-loop μ-loop
+shared-slice-read-t20 c = search needs
 
 second-rank-requires : tie.Need-second-rank-requires Inv-loop μ-loop
 second-rank-requires c κs = search needs
@@ -75,10 +75,10 @@ second-pass-spec =
     Inv-loop
     μ-loop
     loop-holds
-    mul-own
-    slice-read-own
-    mul-t16
-    shared-slice-read-t21
+    mul-t17
+    slice-read-t20
+    mul-t17-2
+    shared-slice-read-t20
     second-rank-requires
     mul-taken
     slice-write-taken

@@ -25,15 +25,15 @@ same-length c = search needs
 
 returns : tie.Need-returns
 returns c = let a = c .before .before .before .before .before .before .before .before .before .before .before .before .before .before .before .before .before .args in
-    let e : tookItself (a .known .now) (a .counts .now) (a .minimum) (a .document .0) (a .own) ≡ true = sym (c .before .before .before .before .before .before .took-itself .ensures) ∙ c .before .before .before .before .before .if1 .taken in
+    let e : tookItself (a .known .now) (a .counts .now) (a .minimum) (a .document .0) (a .own .0) ≡ true = sym (c .before .before .before .before .before .before .took-itself .ensures) ∙ c .before .before .before .before .before .if1 .taken in
     c .rank .ensures
     ∙ ap (rankIn (a .known .now)) (c .before .before .before .nearest-to .ensures .1 ∙ ap (firstAbove (a .centroids .now)) (c .before .before .before .nearest-to .ensures .0))
-    ∙ sym (ap (λ b. cond b (rankIn (a .known .now) (firstAbove (a .centroids .now) (scoresOf (documents (a .starts .now) (a .slots .now) (a .weights .now)) (length (a .scores .now)) (terms (documents (a .offsets .now) (a .components .now) (a .values .now)) (a .document .0))))) (a .own)) e)
+    ∙ sym (ap (λ b. cond b (rankIn (a .known .now) (firstAbove (a .centroids .now) (scoresOf (documents (a .starts .now) (a .slots .now) (a .weights .now)) (length (a .scores .now)) (terms (documents (a .offsets .now) (a .components .now) (a .values .now)) (a .document .0))))) (a .own .0)) e)
 
 returns-2 : tie.Need-returns-2
 returns-2 c = let a = c .before .before .before .before .before .before .before .before .before .before .before .before .args in
-    let e : tookItself (a .known .now) (a .counts .now) (a .minimum) (a .document .0) (a .own) ≡ false = sym (c .before .took-itself .ensures) ∙ c .if1 .left in
-    sym (ap (λ b. cond b (rankIn (a .known .now) (firstAbove (a .centroids .now) (scoresOf (documents (a .starts .now) (a .slots .now) (a .weights .now)) (length (a .scores .now)) (terms (documents (a .offsets .now) (a .components .now) (a .values .now)) (a .document .0))))) (a .own)) e)
+    let e : tookItself (a .known .now) (a .counts .now) (a .minimum) (a .document .0) (a .own .0) ≡ false = sym (c .before .took-itself .ensures) ∙ c .if1 .left in
+    sym (ap (λ b. cond b (rankIn (a .known .now) (firstAbove (a .centroids .now) (scoresOf (documents (a .starts .now) (a .slots .now) (a .weights .now)) (length (a .scores .now)) (terms (documents (a .offsets .now) (a .components .now) (a .values .now)) (a .document .0))))) (a .own .0)) e)
 
 pub second-rank-spec : {M : Type 1} → statement M
 second-rank-spec =

@@ -7,8 +7,8 @@ use Rattle.tour.proofs.story.say_found.Lts as lts
 use Rattle.tour.proofs.story.say_kept.Reads as say-kept-reads
 use Rattle.tour.proofs.story.say_none.Reads as say-none-reads
 use Rattle.tour.proofs.text.say.Reads as say-reads
-use Rattle.held.proofs.dot_at.Reads as dot-at-reads
-use Rattle.held.proofs.offset_at.Reads as offset-at-reads
+use Rattle.held.proofs.score_at.Reads as score-at-reads
+use Rattle.held.proofs.entry_at.Reads as entry-at-reads
 
 abbrev Inv-loop : tie.InvT-loop
 Inv-loop offsets length packed scores i₀ i = Unit
@@ -28,11 +28,11 @@ say-none-requires c κs = search needs
 loop-holds : tie.Need-loop-holds Inv-loop μ-loop
 loop-holds c = search needs
 
-offset-at-requires : tie.Need-offset-at-requires Inv-loop μ-loop
-offset-at-requires c κs = search needs
+entry-at-requires : tie.Need-entry-at-requires Inv-loop μ-loop
+entry-at-requires c κs = search needs
 
-dot-at-requires : tie.Need-dot-at-requires Inv-loop μ-loop
-dot-at-requires c κs = search needs
+score-at-requires : tie.Need-score-at-requires Inv-loop μ-loop
+score-at-requires c κs = search needs
 
 say-kept-requires : tie.Need-say-kept-requires Inv-loop μ-loop
 say-kept-requires c κs = search needs
@@ -59,8 +59,8 @@ say-found-spec =
     say-requires
     say-none-requires
     loop-holds
-    offset-at-requires
-    dot-at-requires
+    entry-at-requires
+    score-at-requires
     say-kept-requires
     add-i
     loop-less

@@ -12,7 +12,7 @@ use Rattle.tour.proofs.story.say_reason.Reads as say-reason-reads
 use Rattle.tour.proofs.story.score_of.Reads as score-of-reads
 use Rattle.tour.proofs.text.say.Reads as say-reads
 use Rattle.tour.proofs.text.say_page.Reads as say-page-reads
-use Rattle.held.proofs.offset_at.Reads as offset-at-reads
+use Rattle.held.proofs.entry_at.Reads as entry-at-reads
 
 abbrev Inv-loop : tie.InvT-loop
 Inv-loop components values ids asked weights factor postings blocks turns dots order length packed none₀ i₀ none i = Unit
@@ -29,8 +29,8 @@ say-requires c κs = search needs
 loop-holds : tie.Need-loop-holds Inv-loop μ-loop
 loop-holds c = search needs
 
-offset-at-requires : tie.Need-offset-at-requires Inv-loop μ-loop
-offset-at-requires c κs = search needs
+entry-at-requires : tie.Need-entry-at-requires Inv-loop μ-loop
+entry-at-requires c κs = search needs
 
 is-kept-requires : tie.Need-is-kept-requires Inv-loop μ-loop
 is-kept-requires c κs = search needs
@@ -38,8 +38,8 @@ is-kept-requires c κs = search needs
 score-of-requires : tie.Need-score-of-requires Inv-loop μ-loop
 score-of-requires c κs = search needs
 
-offset-at-requires-2 : tie.Need-offset-at-requires-2 Inv-loop μ-loop
-offset-at-requires-2 c κs = search needs
+entry-at-requires-2 : tie.Need-entry-at-requires-2 Inv-loop μ-loop
+entry-at-requires-2 c κs = search needs
 
 say-page-requires : tie.Need-say-page-requires Inv-loop μ-loop
 say-page-requires c κs = search needs
@@ -74,10 +74,10 @@ say-left-spec =
     slice-aggregate-say
     say-requires
     loop-holds
-    offset-at-requires
+    entry-at-requires
     is-kept-requires
     score-of-requires
-    offset-at-requires-2
+    entry-at-requires-2
     say-page-requires
     fate-of-requires
     say-reason-requires

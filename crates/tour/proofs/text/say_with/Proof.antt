@@ -5,7 +5,7 @@ use Rattle.tour.proofs.text.say_with.Statement.{statement}
 use Rattle.tour.proofs.text.say_with.Tie as tie
 use Rattle.tour.proofs.text.say_with.Reads as reads
 use Rattle.tour.proofs.text.say_with.Lts as lts
-use Rattle.held.proofs.offset_at.Reads as offset-at-reads
+use Rattle.held.proofs.entry_at.Reads as entry-at-reads
 use Rattle.std.proofs.num.wrapping_add_usize.Reads as wrapping-add-usize-reads
 use Rattle.tour.proofs.text.say_byte.Reads as say-byte-reads
 
@@ -18,11 +18,11 @@ abbrev μ-loop : tie.MeasureT-loop
 loop-holds : tie.Need-loop-holds Inv-loop μ-loop
 loop-holds c = search needs
 
-slice-aggregate-offset-at : tie.Need-slice-aggregate-offset-at Inv-loop μ-loop
-slice-aggregate-offset-at c = search needs
+slice-aggregate-entry-at : tie.Need-slice-aggregate-entry-at Inv-loop μ-loop
+slice-aggregate-entry-at c = search needs
 
-offset-at-requires : tie.Need-offset-at-requires Inv-loop μ-loop
-offset-at-requires c κs = search needs
+entry-at-requires : tie.Need-entry-at-requires Inv-loop μ-loop
+entry-at-requires c κs = search needs
 
 shared-slice-read-say-byte : tie.Need-shared-slice-read-say-byte Inv-loop μ-loop
 shared-slice-read-say-byte c = search needs
@@ -52,8 +52,8 @@ say-with-spec =
     Inv-loop
     μ-loop
     loop-holds
-    slice-aggregate-offset-at
-    offset-at-requires
+    slice-aggregate-entry-at
+    entry-at-requires
     shared-slice-read-say-byte
     say-byte-requires
     wrapping-add-usize-requires
