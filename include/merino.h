@@ -44,38 +44,40 @@ uint64_t merino_push(
 
    by_score                0: blocks have their turns in number order; 1: greater score first, then smaller block. Any other number does
                            as 1, and is reserved
-   asked, weights          the query: components, strictly rising, and their values
+   query_components,
+   query_values            the query: components, strictly rising, and their values
    k, factor               how many are kept; a block is skipped at its turn if k are kept and its score < factor x worst kept score
    components, values      the terms of all documents, side by side
    postings                the list's packed ranges: start times 65,536 plus length
-   blocks                  block offsets into the postings, one more than there are blocks
-   present, offsets        the components that some summary has, strictly rising, and where the entries of each start
-   ids, codes              the entries: number of a summary, and code
+   block_offsets           where each block starts in the postings, one more than there are blocks
+   summary_components,
+   component_offsets       the components that some summary has, strictly rising, and where the entries of each start
+   summary_ids, codes      the entries: number of a summary, and code
    minimums, steps         of each summary
    length, packed, scores  the kept list, as for merino_push; need k places
    visits                  a byte for each start from 0 to the number of terms; nonzero is visited, a visit writes 1
-   dots                    left with the score of each block, in the first places; needs one for each minimum
-   order                   where by_score is not 0: left with the block numbers in the order of their turns; needs one for each minimum
+   block_scores            left with the score of each block, in the first places; needs one for each minimum
+   block_order             where by_score is not 0: left with the block numbers in the order of their turns; needs one for each minimum
    position                left with the place in the postings at which 13 or 14 stopped the search, else 0
    evaluated, skipped      left with the number of postings evaluated and of blocks skipped; 0 where the search was refused or stopped
 
    These three numbers are written by every call. Accepted (0), or stopped by 13 or 14 at a posting: the kept list and the visit bytes
-   stand as after the last posting that was evaluated, dots and order hold the blocks' scores and their turns, and what lies past these
-   results is unchanged. Refused, in this order: 11, 10, 6 (terms differ in number), 9, 12, 4; then length, packed, scores, visits, dots
-   and order are unchanged, and position, evaluated and skipped are 0. */
+   stand as after the last posting that was evaluated, block_scores and block_order hold the blocks' scores and their turns, and what
+   lies past these results is unchanged. Refused, in this order: 11, 10, 6 (terms differ in number), 9, 12, 4; then length, packed,
+   scores, visits, block_scores and block_order are unchanged, and position, evaluated and skipped are 0. */
 uint64_t merino_search(
     uint64_t by_score,
-    const uint32_t *asked, size_t asked_len,
-    const float *weights, size_t weights_len,
+    const uint32_t *query_components, size_t query_components_len,
+    const float *query_values, size_t query_values_len,
     uint64_t k,
     float factor,
     const uint32_t *components, size_t components_len,
     const float *values, size_t values_len,
     const uint64_t *postings, size_t postings_len,
-    const uint64_t *blocks, size_t blocks_len,
-    const uint32_t *present, size_t present_len,
-    const uint64_t *offsets, size_t offsets_len,
-    const uint16_t *ids, size_t ids_len,
+    const uint64_t *block_offsets, size_t block_offsets_len,
+    const uint32_t *summary_components, size_t summary_components_len,
+    const uint64_t *component_offsets, size_t component_offsets_len,
+    const uint16_t *summary_ids, size_t summary_ids_len,
     const uint8_t *codes, size_t codes_len,
     const float *minimums, size_t minimums_len,
     const float *steps, size_t steps_len,
@@ -83,8 +85,8 @@ uint64_t merino_search(
     uint64_t *packed, size_t packed_len,
     float *scores, size_t scores_len,
     uint8_t *visits, size_t visits_len,
-    float *dots, size_t dots_len,
-    uint64_t *order, size_t order_len,
+    float *block_scores, size_t block_scores_len,
+    uint64_t *block_order, size_t block_order_len,
     uint64_t *position,
     uint64_t *evaluated,
     uint64_t *skipped);
@@ -110,13 +112,13 @@ uint64_t merino_search(
                              of the count, which is centroid_fraction times the length, cut to a whole number and at least 1
    A choice's settings are not looked at under another choice.
 
-   The result, in eight buffers, as merino_search takes it (its names in brackets), and how long it is:
-   postings                  packed ranges [postings]: postings_written
-   block_offsets             [blocks] offsets_written: one more than there are blocks, or 0 for clusters of an empty list
-   summary_components        [present] components_written
-   component_offsets         [offsets] components_written + 1
-   summary_ids, codes        [ids, codes] entries_written each
-   minimums, steps           [minimums, steps] summaries_written each: as many as there are blocks
+   The result, in eight buffers, as merino_search takes it under the same names, and how long it is:
+   postings                  postings_written
+   block_offsets             offsets_written: one more than there are blocks, or 0 for clusters of an empty list
+   summary_components        components_written
+   component_offsets         components_written + 1
+   summary_ids, codes        entries_written each
+   minimums, steps           summaries_written each: as many as there are blocks
 
    Scratch, eleven buffers, for n ids, C centroids given (0 where blocking is 0), T terms of these, and dimension D (docs/SCRATCH.md):
    order                     n
@@ -128,7 +130,7 @@ uint64_t merino_search(
    starts                    D + 1
    slots                     T
    weights                   T
-   scores                    max(C, D)
+   sums                      max(C, D)
    keys                      D
    What these hold before the call does not matter.
 
@@ -168,7 +170,7 @@ uint64_t merino_build(
     uint64_t *starts, size_t starts_len,
     uint64_t *slots, size_t slots_len,
     float *weights, size_t weights_len,
-    float *scores, size_t scores_len,
+    float *sums, size_t sums_len,
     uint64_t *keys, size_t keys_len,
     uint64_t *postings_written,
     uint64_t *offsets_written,

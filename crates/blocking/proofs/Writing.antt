@@ -1,4 +1,4 @@
--- One turn of writing offsets, and its end. Assumes nothing.
+-- One turn of writing offsets, and its end.
 use Prim.Native.Nat.{ℕ, suc, _+_, _*_, _≤_, _<_, _/_}
 use mathlib.Core.Path.{_≡_, sym, ap, _∙_}
 use mathlib.Core.List.{List, [], _∷_, _++_, append-assoc}
@@ -8,7 +8,7 @@ use native.Mathlib.Omega.{arith}
 use lib.ListN.{length, set, drop}
 use lib.Seq.{drop-cons, set-at}
 use Rattle.blocking.specs.Blocking.{starts, fixedOffsets, inFront}
-use Rattle.blocking.specs.Laws.{starts-more, length-starts, offsets-number}
+use Rattle.blocking.specs.Laws.Blocking.{starts-more, length-starts, offsets-number}
 
 -- the next start fits where the starts of k blocks do
 pub next-fits : (n b k i : ℕ) → i < k → k * b ≤ n → i * b + b ≤ n

@@ -10,7 +10,7 @@ use Rattle.refusal.specs.declared.Verdict.{Verdict}
 use Rattle.refusal.specs.declared.Verdict.the-variants as verdict
 use Rattle.refusal.specs.Refusals.{numberOf}
 use Rattle.refusal.specs.First.{Test, _gives_, firstOf}
-use Rattle.lists.specs.Lists.{from}
+use Rattle.sequences.specs.Lists.{from}
 use Rattle.float32.specs.Count.{scaledLength}
 use Rattle.blocking.specs.declared.BlockingAnswer.{BlockingAnswer}
 use Rattle.blocking.specs.declared.BlockingAnswer.the-variants.{Written, Refused}

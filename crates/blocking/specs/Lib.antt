@@ -1,7 +1,5 @@
 pub mod Limits
-pub mod LimitLaws
 pub mod Blocking
-pub mod Laws
-pub mod Shares
+pub mod Blocks
 pub mod Promises
-pub mod Cases
+pub mod Laws

@@ -1,5 +1,5 @@
 -- The limits on a posting list: document 01, "Numbers" and "Numbered refusals". They stand here and nowhere else; other crates know of them
--- what LimitLaws says.
+-- what Laws/Limits says.
 use Prim.Native.Nat.{ℕ}
 
 -- as many ids as a list may have

@@ -1,4 +1,4 @@
--- What fixed blocking promises: which answer is given when, in document 01's numbers, and what it leaves in the lent buffer. Assumes nothing.
+-- What fixed blocking promises: which answer is given when, in document 01's numbers, and what it leaves in the lent buffer.
 use Prim.Native.Nat.{ℕ, _+_, _≤_, _<_, _/_}
 use mathlib.Core.Path.{_≡_, sym, ap}
 use mathlib.Core.Bool.{true, false}
@@ -9,9 +9,12 @@ use lib.ListN.{length}
 use Rattle.blocking.specs.declared.BlockingAnswer.{BlockingAnswer}
 use Rattle.blocking.specs.Limits.{listLimit, blockLimit}
 use Rattle.blocking.specs.Blocking.{fixedOffsets, blocked, inFront, offsetsLeft, inNumbers}
-use Rattle.blocking.specs.Laws.{Blocks, length-refused, size-refused, blocks-refused, buffer-refused, offsets-written}
+use Rattle.blocking.specs.Blocks.{Blocks}
+use Rattle.blocking.specs.Laws.Blocking.{blocks-refused, buffer-refused, offsets-written}
+use Rattle.blocking.specs.Laws.Blocking.{length-refused, size-refused}
 
--- a length, a block size and a lent buffer, with what they give: the number of a refusal on the left, of offsets on the right; and the buffer afterwards
+-- a length, a block size and a lent buffer, with what they give: the number of a refusal on the left, of offsets on the right; and the
+-- buffer afterwards
 pub record Gives (n b : ℕ) (buffer : List ℕ) (answer : ℕ ⊎ ℕ) (after : List ℕ) : Type 0 where
   pub answers : inNumbers (blocked n b buffer) ≡ answer
   pub leaves : offsetsLeft n b buffer ≡ after

@@ -3,4 +3,4 @@ pub mod Shared
 pub mod Near
 pub mod Made
 pub mod Shown
-pub mod Cases
+pub mod Laws

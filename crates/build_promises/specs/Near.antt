@@ -1,22 +1,23 @@
--- What a search reads of a built list: each block's summary, near to what was summarized. Demand 3, of stored codes. Assumes nothing.
+-- What a search reads of a built list: each block's summary, near to what was summarized. Demand 3, of stored codes.
 use Prim.Native.Nat.{ℕ, _<_}
 use native.Mathlib.Omega.{arith}
 use mathlib.Core.Path.{_≡_, subst}
 use mathlib.Core.List.{List, []}
 use lib.ListN.{length, getD, length-map}
 use Rattle.refusal.specs.declared.Verdict.the-variants.{Accepted}
-use Rattle.lists.specs.Laws.{map-at}
+use Rattle.sequences.specs.Laws.Lists.{map-at}
+use Rattle.sequences.specs.Laws.Each.{each-at}
 use Rattle.documents.specs.Documents.{Term}
 use Rattle.quantizing.specs.Demand3.{F32s}
 use Rattle.quantizing.specs.Quantizing.{least}
-use Rattle.summaries.specs.Summaries.{summary}
-use Rattle.summaries.specs.Each.{each-at}
-use Rattle.layout.specs.Layouts.{values, layout}
-use Rattle.layout.specs.Passes.{Storable}
-use Rattle.layout.specs.Near.{StoredNear, stored-near}
-use Rattle.building.specs.Built.{Input, blockDocuments, summaries, built}
-use Rattle.building.specs.Building.{Lent, verdictOf}
-use Rattle.building.specs.Promises.{storable}
+use Rattle.summary_terms.specs.Summaries.{summary}
+use Rattle.sparse_layout.specs.Layouts.{values, layout}
+use Rattle.sparse_layout.specs.Passes.{Storable}
+use Rattle.sparse_layout.specs.Near.{StoredNear}
+use Rattle.sparse_layout.specs.Laws.Near.{stored-near}
+use Rattle.build_meaning.specs.Built.{Input, blockDocuments, summaries, built}
+use Rattle.build_meaning.specs.Building.{Lent, verdictOf}
+use Rattle.build_meaning.specs.Promises.{storable}
 
 -- the summary of the block with a number
 abbrev pub summaryAt : Input → ℕ → List Term

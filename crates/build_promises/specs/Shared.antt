@@ -1,13 +1,13 @@
--- The blocks of a list share it out, however it is blocked. Assumes nothing.
+-- The blocks of a list share it out, however it is blocked.
 use Prim.Native.Nat.{ℕ, suc, _/_, _<_}
 use mathlib.Core.Path.{_≡_}
 use mathlib.Core.List.{[], List·Permᴰ}
 use lib.ListN.{length}
 use Rattle.configuration.specs.declared.BlockingStrategy.{BlockingStrategy}
 use Rattle.configuration.specs.declared.BlockingStrategy.the-variants.{FixedSize, RandomKmeans}
-use Rattle.lists.specs.Lists.{joined}
-use Rattle.building.specs.Built.{Input, blockDocuments}
-use Rattle.building.specs.Shares.{clustered-share, fixed-share, fixed-short}
+use Rattle.sequences.specs.Lists.{joined}
+use Rattle.build_meaning.specs.Built.{Input, blockDocuments}
+use Rattle.build_meaning.specs.Laws.Shares.{clustered-share, fixed-share, fixed-short}
 
 -- by a fixed size: the blocks, one after another, are the list, and a list shorter than a block has none; by clusters: each listed posting
 -- lies in one block, as often as it is listed

@@ -1,25 +1,26 @@
--- What a caller of `merino_build` has, from the C function's equation and its number alone. Assumes nothing.
-use Prim.Native.Nat.{ℕ, _<_}
-use mathlib.Core.Path.{_≡_, refl, sym, ap, _∙_}
-use lib.ListN.{getD}
+-- What a caller of `merino_build` has, from the C function's equation and its number alone.
+use Prim.Native.Nat.{ℕ}
+use mathlib.Core.Path.{_≡_}
 use Rattle.refusal.specs.declared.Refusal.{Refusal}
 use Rattle.refusal.specs.Refusals.{numberOf}
-use Rattle.refusal.specs.Numbered.{number-not-zero}
-use Rattle.quantizing.specs.Demand3.{F32s}
-use Rattle.building.specs.declared.BuiltSizes.{BuiltSizes}
-use Rattle.building.specs.declared.BuildAnswer.{BuildAnswer}
-use Rattle.building.specs.declared.BuildAnswer.the-variants.{Refused, Built}
-use Rattle.building.specs.Built.{Input}
-use Rattle.building.specs.Building.{Lent, leaves, builds}
-use Rattle.build_numbers.specs.Shown.{ShownBuilt, seenBuilt}
-use Rattle.build_promises.specs.Made.{Made, made, Unmade, unmade}
+use Rattle.build_meaning.specs.declared.BuiltSizes.{BuiltSizes}
+use Rattle.build_meaning.specs.Built.{Input}
+use Rattle.build_meaning.specs.Building.{Lent}
+use Rattle.c_build.specs.Shown.{ShownBuilt}
+use Rattle.build_promises.specs.Made.{Unmade}
 
 -- what is shown: a number, and five sizes
 abbrev pub numberShown : ShownBuilt → ℕ
 numberShown x = x .answer .number
 
 abbrev pub sizesShown : ShownBuilt → BuiltSizes
-sizesShown x = record { postings = x .answer .postingsWritten; offsets = x .answer .offsetsWritten; components = x .answer .componentsWritten; entries = x .answer .entriesWritten; summaries = x .answer .summariesWritten }
+sizesShown x = record {
+  postings = x .answer .postingsWritten;
+  offsets = x .answer .offsetsWritten;
+  components = x .answer .componentsWritten;
+  entries = x .answer .entriesWritten;
+  summaries = x .answer .summariesWritten;
+}
 
 -- any other number than 0 is that of a refusal: no sizes, and all that was lent is zero
 pub record NotBuilt (g : Input) (lent : Lent) (x : ShownBuilt) : Type 0 where
@@ -27,28 +28,3 @@ pub record NotBuilt (g : Input) (lent : Lent) (x : ShownBuilt) : Type 0 where
   pub number : numberShown x ≡ numberOf reason
   pub sizes : sizesShown x ≡ record { postings = 0; offsets = 0; components = 0; entries = 0; summaries = 0 }
   pub refused : Unmade g lent reason (x .lent)
-
--- the answer that shows 0
-answer-built : (x : ShownBuilt) (a : BuildAnswer) (l : Lent) → x ≡ seenBuilt (leaves a l) → numberShown x ≡ 0 → leaves (Built (sizesShown x)) (x .lent) ≡ leaves a l
-answer-built x (Refused r) l w z = absurd (number-not-zero r (sym (ap numberShown w) ∙ z))
-answer-built x (Built b) l w z = λ j. leaves (Built (sizesShown (w j))) (w j .lent)
-
--- `x ≡ seenBuilt (builds g lent)` is the contract of `merino_build`: x has the number that it returned, the sizes that it wrote, and what
--- then lies where `lent` was
-module _ (g : Input) (lent : Lent) (x : ShownBuilt) (contract : x ≡ seenBuilt (builds g lent)) where
-  pub not-built-shown : (numberShown x ≡ 0 → ⊥) → NotBuilt g lent x
-  not-built-shown n = go (builds g lent .answer) refl contract
-    where
-      go : (a : BuildAnswer) → builds g lent .answer ≡ a → x ≡ seenBuilt (leaves a (builds g lent .lent)) → NotBuilt g lent x
-      go (Built b) q w = absurd (n (ap numberShown w))
-      go (Refused r) q w = record {
-        reason = r;
-        number = ap numberShown w;
-        sizes = ap sizesShown w;
-        refused = unmade g lent (x .lent) (Refused r) r ((λ j. leaves (Refused r) (w j .lent)) ∙ ap (λ a. leaves a (builds g lent .lent)) (sym q)) refl;
-      }
-
-  -- a slice of u32 and one of f32 hold nothing else
-  module _ (narrow : (k : ℕ) → getD (g .documents .components) k 0 < 4294967296) (fs : F32s (g .documents .values)) where
-    pub made-shown : numberShown x ≡ 0 → Made g lent (sizesShown x) (x .lent)
-    made-shown z = made g lent (x .lent) narrow fs (Built (sizesShown x)) (sizesShown x) (answer-built x (builds g lent .answer) (builds g lent .lent) contract z) refl

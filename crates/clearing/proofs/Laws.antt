@@ -1,4 +1,4 @@
--- A buffer that is set to one entry from the front on, over whatever the entries are. Assumes nothing.
+-- A buffer that is set to one entry from the front on, over whatever the entries are.
 use Prim.Native.Nat.{ℕ, zero, suc, _+_, _<_}
 use native.Mathlib.Omega.{arith}
 use native.Mathlib.Numerals.{add-one}

@@ -1,13 +1,10 @@
 // Lent buffers set to zero, one function for each kind of number: what a refused call leaves, and what every call leaves in its scratch.
 ghost use mathlib.Core.Path.{_≡_};
-ghost use mathlib.Core.Bool.{false};
-ghost use lib.IntN.{pos};
-ghost use lib.Ieee.{fin};
-ghost use lib.ListN.{length, replicate};
+ghost use Rattle.clearing.specs.Zeros.{zeros, floatZeros};
 
 // Sets each u64 to 0.
 pub fn clear_u64(numbers: &mut [u64])
-    ensures { λ _. ⌜ now (numbers .exit) ≡ replicate (length (now (numbers .entry))) 0 ⌝ }
+    ensures { λ _. ⌜ now (numbers .exit) ≡ zeros (now (numbers .entry)) ⌝ }
 {
     let mut i = 0usize;
     while i < numbers.len() {
@@ -18,7 +15,7 @@ pub fn clear_u64(numbers: &mut [u64])
 
 // Sets each u32 to 0.
 pub fn clear_u32(components: &mut [u32])
-    ensures { λ _. ⌜ now (components .exit) ≡ replicate (length (now (components .entry))) 0 ⌝ }
+    ensures { λ _. ⌜ now (components .exit) ≡ zeros (now (components .entry)) ⌝ }
 {
     let mut i = 0usize;
     while i < components.len() {
@@ -29,7 +26,7 @@ pub fn clear_u32(components: &mut [u32])
 
 // Sets each u16 to 0.
 pub fn clear_u16(ids: &mut [u16])
-    ensures { λ _. ⌜ now (ids .exit) ≡ replicate (length (now (ids .entry))) 0 ⌝ }
+    ensures { λ _. ⌜ now (ids .exit) ≡ zeros (now (ids .entry)) ⌝ }
 {
     let mut i = 0usize;
     while i < ids.len() {
@@ -40,7 +37,7 @@ pub fn clear_u16(ids: &mut [u16])
 
 // Sets each u8 to 0.
 pub fn clear_u8(codes: &mut [u8])
-    ensures { λ _. ⌜ now (codes .exit) ≡ replicate (length (now (codes .entry))) 0 ⌝ }
+    ensures { λ _. ⌜ now (codes .exit) ≡ zeros (now (codes .entry)) ⌝ }
 {
     let mut i = 0usize;
     while i < codes.len() {
@@ -51,7 +48,7 @@ pub fn clear_u8(codes: &mut [u8])
 
 // Sets each value to +0.
 pub fn clear_f32(values: &mut [f32])
-    ensures { λ _. ⌜ now (values .exit) ≡ replicate (length (now (values .entry))) (fin false 0 (pos 0)) ⌝ }
+    ensures { λ _. ⌜ now (values .exit) ≡ floatZeros (now (values .entry)) ⌝ }
 {
     let mut i = 0usize;
     while i < values.len() {

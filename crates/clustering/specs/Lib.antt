@@ -1,3 +1,3 @@
-pub mod Answers
-pub mod Given
-pub mod Ready
+pub mod Clustered
+pub mod Enough
+pub mod Laws

@@ -1,5 +1,5 @@
--- The check of listed documents one at a time, as its loop goes. Assumes nothing.
-use Prim.Native.Nat.{ℕ, suc, _+_, _-_, _≤_, _<_, min}
+-- The check of listed documents one at a time, as its loop goes.
+use Prim.Native.Nat.{ℕ, suc, _+_, _-_, _<_, min}
 use native.Mathlib.Omega.{arith}
 use native.Mathlib.Numerals.{add-one}
 use mathlib.Core.Path.{_≡_, sym, ap, _∙_}
@@ -8,19 +8,12 @@ use mathlib.Core.List.{List}
 use lib.ListN.{length, getD, take, drop, length-take, length-drop}
 use lib.Seq.{drop-cons, drop-length}
 use borrow.Author.Tests.{eq-eqb}
-use Rattle.lists.specs.Lists.{every}
+use Rattle.sequences.specs.Lists.{every}
 use Rattle.documents.specs.declared.TermPlaces.{TermPlaces}
 use Rattle.documents.specs.Documents.{paired, Documents, terms}
 use Rattle.documents.specs.Checks.{termsHoldBelow, slicesHoldBelow, documentsHold}
 use Rattle.documents.specs.Answers.{placesOf}
-use Rattle.documents.specs.Places.{terms-at, places-order, places-within}
-
-module _ (d : Documents) (count i : ℕ) (p : TermPlaces) (e : p ≡ placesOf (d .offsets) count i) where
-  pub places-ordered : p .from ≤ p .to
-  places-ordered = rw e (places-order (d .offsets) count i)
-
-  pub places-in : p .to ≤ count
-  places-in = rw e (places-within (d .offsets) count i)
+use Rattle.documents.specs.Laws.Places.{terms-at, places-ordered, places-in}
 
 module _ (d : Documents) (n count : ℕ) (C : count ≡ min (length (d .components)) (length (d .values))) (i : ℕ) (p : TermPlaces) (e : p ≡ placesOf (d .offsets) count i) where
   -- the check of the two slices at a document's places is the check of its terms

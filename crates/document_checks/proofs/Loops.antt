@@ -1,4 +1,4 @@
--- The checks one place at a time, as their loops go: what was found so far and the check of what is left make the check of all. Assumes nothing.
+-- The checks one place at a time, as their loops go: what was found so far and the check of what is left make the check of all.
 use Prim.Native.Nat.{ℕ, suc, _+_, _-_, _≤_, _<_}
 use native.Mathlib.Omega.{arith}
 use native.Mathlib.Numerals.{add-one}
@@ -10,10 +10,10 @@ use lib.Seq.{drop-cons, drop-length}
 use lib.Dec.{leb, ltb, eqb}
 use lib.Ieee.{Float, nan, binary32, ofBits, neg, le}
 use Rattle.float32.specs.Bound.{inBound}
-use Rattle.float32.specs.BoundLaws.{in-bound-tests}
-use Rattle.lists.specs.Lists.{every, neverFalls, strictlyRise}
+use Rattle.float32.specs.Laws.BoundLaws.{in-bound-tests}
+use Rattle.sequences.specs.Lists.{every, neverFalls, strictlyRise}
 use Rattle.documents.specs.Checks.{offsetsHoldFree, idsHold, slicesHold}
-use Rattle.documents.specs.Laws.{slices-apart}
+use Rattle.documents.specs.Laws.Documents.{slices-apart}
 
 -- ---- ids
 pub ids-step : (o : Bool) (n : ℕ) (ids : List ℕ) (i : ℕ) → i < length ids → (o && ltb (getD ids i 0) n && idsHold n (drop (i + 1) ids)) ≡ (o && idsHold n (drop i ids))

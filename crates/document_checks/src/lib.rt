@@ -3,7 +3,7 @@
 ghost use mathlib.Core.Path.{_≡_};
 ghost use Rattle.documents.specs.Documents.{documents, terms};
 ghost use Rattle.documents.specs.Checks.{offsetsHoldFree, offsetsHold, idsHold, slicesHold, slicesHoldBelow, termsHoldBelow, documentsHold};
-use names::DocumentId;
+use number_types::DocumentId;
 
 // Whether the first offset is 0 and none falls; false where there are no offsets. One pass over the offsets, which leaves at none
 // of them, so that the compiler can take several at once.

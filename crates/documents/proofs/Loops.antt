@@ -1,4 +1,4 @@
--- The checks one place at a time, as their loops go: what was found so far and the check of what is left make the check of all. Assumes nothing.
+-- The checks one place at a time, as their loops go: what was found so far and the check of what is left make the check of all.
 use Prim.Native.Nat.{ℕ, suc, _+_, _-_, _≤_, _<_, min}
 use native.Mathlib.Omega.{arith}
 use native.Mathlib.Numerals.{add-one}

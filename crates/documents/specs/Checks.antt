@@ -6,7 +6,7 @@ use lib.ListN.{length}
 use lib.Dec.{ltb, eqb}
 use lib.Ieee.{Float}
 use Rattle.float32.specs.Bound.{inBound}
-use Rattle.lists.specs.Lists.{every, firstOr, lastOr, neverFalls, strictlyRise}
+use Rattle.sequences.specs.Lists.{every, firstOr, lastOr, neverFalls, strictlyRise}
 use Rattle.documents.specs.Documents.{Term, paired, Documents, terms}
 
 -- the first offset is 0 and none falls; no offsets at all are a fault

@@ -7,7 +7,7 @@ use lib.IntN.{pos}
 use lib.Dec.{leb, eqb}
 use lib.Ieee.{Float, fin, binary32, add, mul}
 use Rattle.float32.specs.Order.{atMost}
-use Rattle.lists.specs.Lists.{those, part, joined, from, withKey, sortedBy}
+use Rattle.sequences.specs.Lists.{those, part, joined, from, withKey, sortedBy}
 use Rattle.packing.specs.Packing.{packOf}
 
 pub record Term : Type 0 where

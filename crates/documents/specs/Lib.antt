@@ -1,9 +1,5 @@
 pub mod Documents
 pub mod Checks
 pub mod Answers
-pub mod Laws
 pub mod TermKeys
-pub mod Places
-pub mod Bounds
-pub mod Ranges
-pub mod Cases
+pub mod Laws

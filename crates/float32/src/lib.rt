@@ -1,6 +1,6 @@
-// Single floats as document 01 and IEEE 754-2019 have them: the total order and a key for it, the bound on values, a value's byte, a part of a length.
+// Single floats as document 01 and IEEE 754-2019 have them: the total order and a key for it, the bound on values, a value's byte, a part
+// of a length.
 ghost use mathlib.Core.Path.{_≡_};
-ghost use Prim.Native.Nat.{min, max};
 ghost use lib.IntN.{pos};
 ghost use lib.Ieee.{binary32, ofInt, toUnsigned};
 ghost use Rattle.float32.specs.Order.{atMost};
@@ -8,7 +8,7 @@ ghost use Rattle.float32.specs.Key.{keyOf, valueOf};
 ghost use Rattle.float32.specs.Bound.{inBound};
 ghost use Rattle.float32.specs.Rounding.{byteOf};
 ghost use Rattle.float32.specs.Count.{scaledLength};
-ghost use Rattle.float32.specs.LengthLaws.{withoutEnd};
+ghost use Rattle.float32.specs.Lengths.{withoutEnd};
 
 // A number whose rising order is the total order: -0 stands just below +0, and every NaN at the top.
 pub fn key(x: f32) -> u32
@@ -41,20 +41,6 @@ pub fn value_of_key(k: u32) -> f32
     } else {
         f32::from_bits(0xffff_ffff - k)
     }
-}
-
-// The lesser of two keys.
-pub fn lower(a: u32, b: u32) -> u32
-    ensures { λ r. ⌜ r ≡ min a b ⌝ }
-{
-    if a < b { a } else { b }
-}
-
-// The greater of two keys.
-pub fn higher(a: u32, b: u32) -> u32
-    ensures { λ r. ⌜ r ≡ max a b ⌝ }
-{
-    if a < b { b } else { a }
 }
 
 // Whether a stands at b or before it in IEEE 754's total order, a NaN above all else.

@@ -1,4 +1,4 @@
--- The exchange of neighbours, over plain lists: what is left to do gives what all of it gives. Assumes nothing.
+-- The exchange of neighbours, over plain lists: what is left to do gives what all of it gives.
 use Prim.Native.Nat.{ℕ, zero, suc, _+_, _≤_, _<_}
 use native.Mathlib.Omega.{arith}
 use native.Mathlib.Numerals.{add-one}
@@ -10,9 +10,9 @@ use lib.Seq.{take-set-le, drop-set-lt, drop-cons, getD-set-same, split-at, lt-le
 use lib.Ieee.{Float, nan}
 use Rattle.kept_list.specs.declared.Scored.{Scored}
 use Rattle.kept_list.specs.Keep.{insertAfter}
-use Rattle.kept_list.specs.Pushing.{length-insert, insert-last, insert-before-last}
+use Rattle.kept_list.specs.Laws.Pushing.{length-insert, insert-last, insert-before-last}
 use Rattle.kept_list.specs.Entry.{better}
-use Rattle.kept_list.specs.Laid.{beside-snoc, packed-beside, scores-beside, length-beside}
+use Rattle.kept_list.specs.Laws.Laid.{beside-snoc, packed-beside, scores-beside, length-beside}
 use Rattle.kept_list.specs.Lent.{lent, entryAt, packedOf, scoreOf, entries, inserted}
 
 -- ---- one column: the first entries with e among them, and what lies below

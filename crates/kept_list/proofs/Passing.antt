@@ -1,4 +1,4 @@
--- Four exchanges at once are four exchanges, and the float test finds worse entries only. Assumes nothing.
+-- Four exchanges at once are four exchanges, and the float test finds worse entries only.
 use Prim.Native.Nat.{ℕ, suc, _-_, _≤_, _<_}
 use native.Mathlib.Omega.{arith}
 use mathlib.Core.Path.{_≡_, refl, sym, ap, _∙_}
@@ -8,13 +8,14 @@ use lib.ListN.{getD, set}
 use lib.Seq.{getD-set-other, set-set}
 use lib.Dec.{T}
 use lib.Ieee.{Float, nan, binary32, fits, lt, eq}
-use Rattle.lists.specs.Laws.{both}
+use Rattle.sequences.specs.Laws.Lists.{both}
 use Rattle.float32.specs.Order.{atMost}
-use Rattle.float32.specs.Tests.{yes}
-use Rattle.float32.specs.Comparisons.{lt-by-order, lt-numbers}
+use Rattle.float32.specs.Laws.Tests.{yes}
+use Rattle.float32.specs.Laws.Comparisons.{lt-by-order, lt-numbers}
 use Rattle.kept_list.specs.declared.Scored.{Scored}
-use Rattle.kept_list.specs.Order.{is-not}
-use Rattle.kept_list.specs.Entry.{scored, better, better-is}
+use Rattle.kept_list.specs.Laws.Order.{is-not}
+use Rattle.kept_list.specs.Entry.{scored, better}
+use Rattle.kept_list.specs.Laws.Entry.{better-is}
 use Rattle.kept_list.specs.Lent.{entryAt}
 use Rattle.kept_list.specs.Fours.{fourBelow, Fitting, fourPassed}
 use Rattle.kept_list.proofs.Climbing.{Climbing, climb-up}

@@ -1,4 +1,4 @@
--- A push without its refusals, by its cases. Assumes nothing.
+-- A push without its refusals, by its cases.
 use Prim.Native.Nat.{ℕ, zero, suc, _≤_, _<_, min}
 use native.Mathlib.Omega.{arith}
 use mathlib.Core.Path.{_≡_, refl, sym, ap, _∙_}
@@ -9,12 +9,12 @@ use lib.ListN.{length}
 use lib.Ieee.{Float}
 use lib.Dec.{leb, ltb}
 use borrow.Author.Tests.{le-leb, lt-leb, leb-true, leb-false, ltb-true, ltb-false}
-use Rattle.lists.specs.Laws.{neither}
+use Rattle.sequences.specs.Laws.Lists.{neither}
 use Rattle.kept_list.specs.declared.Scored.{Scored}
 use Rattle.kept_list.specs.Keep.{keep}
-use Rattle.kept_list.specs.Pushing.{keep-adds, keep-none, keep-replaces}
+use Rattle.kept_list.specs.Laws.Pushing.{keep-adds, keep-none, keep-replaces}
 use Rattle.kept_list.specs.Entry.{better}
-use Rattle.kept_list.specs.Laid.{beside-snoc, length-beside, written-same, settled-in}
+use Rattle.kept_list.specs.Laws.Laid.{beside-snoc, length-beside, written-same, settled-in}
 use Rattle.kept_list.specs.declared.Place.{Place}
 use Rattle.kept_list.specs.declared.Place.the-variants.{At, Nowhere}
 use Rattle.kept_list.specs.Place.{Starts, Placed}

@@ -3,7 +3,7 @@ use Prim.Native.Nat.{ℕ}
 use mathlib.Core.Bool.{Bool, true, not, _&&_, cond}
 use mathlib.Core.List.{List, [], _∷_}
 use lib.ListN.{take}
-use Rattle.lists.specs.Lists.{every, sortedBy}
+use Rattle.sequences.specs.Lists.{every, sortedBy}
 
 module _ {A : Type 0} (better : A → A → Bool) where
   -- e is better than each of the entries

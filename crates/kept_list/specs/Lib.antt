@@ -1,10 +1,5 @@
 pub mod Keep
 pub mod Order
-pub mod Pushing
-pub mod Sorted
-pub mod Best
-pub mod Stable
-pub mod LeftOut
 pub mod Entry
 pub mod Lent
 pub mod Laid
@@ -15,4 +10,4 @@ pub mod WellKept
 pub mod Told
 pub mod Worst
 pub mod Promises
-pub mod Cases
+pub mod Laws

@@ -1,4 +1,4 @@
--- What the kept list promises, over the definitions alone; a push answers in document 01's numbers. Assumes nothing.
+-- What the kept list promises, over the definitions alone; a push answers in document 01's numbers.
 use Prim.Native.Nat.{ℕ, suc, _≤_, _<_, min}
 use native.Mathlib.Omega.{arith}
 use mathlib.Core.Path.{_≡_, refl, sym, ap, _∙_}
@@ -12,23 +12,28 @@ use Rattle.refusal.specs.declared.Refusal.the-variants.{NothingToKeep, WrongKep
 use Rattle.refusal.specs.declared.Verdict.{Verdict}
 use Rattle.refusal.specs.declared.Verdict.the-variants.{Accepted, Refused}
 use Rattle.refusal.specs.Refusals.{verdictNumber}
-use Rattle.refusal.specs.First.{_gives_, firstOf, faultless}
-use Rattle.lists.specs.Lists.{every, those, EachOf, sortedBy}
-use Rattle.lists.specs.Laws.{both}
+use Rattle.refusal.specs.First.{_gives_, firstOf}
+use Rattle.refusal.specs.Laws.First.{faultless}
+use Rattle.sequences.specs.Lists.{every, those, EachOf, sortedBy}
+use Rattle.sequences.specs.Laws.Lists.{both}
 use Rattle.float32.specs.Order.{atMost}
 use Rattle.kept_list.specs.declared.Scored.{Scored}
 use Rattle.kept_list.specs.Keep.{insertAfter, keep, keepAll, noLater, kBest, inOrder, level}
 use Rattle.kept_list.specs.Order.{Order}
-use Rattle.kept_list.specs.Pushing.{length-keep, keep-adds, keep-none, keep-replaces}
-use Rattle.kept_list.specs.Sorted.{insert-between, sorted-keep}
-use Rattle.kept_list.specs.Best.{k-best, sorted-sort}
-use Rattle.kept_list.specs.Stable.{sort-stable, sort-unique}
-use Rattle.kept_list.specs.LeftOut.{not-taken}
-use Rattle.kept_list.specs.Entry.{sameScore, better, better-is, better-order, level-same}
-use Rattle.kept_list.specs.Told.{Fit, numbers-kept, out-of-best}
+use Rattle.kept_list.specs.Laws.Pushing.{length-keep, keep-adds, keep-none, keep-replaces}
+use Rattle.kept_list.specs.Laws.Sorted.{insert-between, sorted-keep}
+use Rattle.kept_list.specs.Laws.Best.{k-best, sorted-sort}
+use Rattle.kept_list.specs.Laws.Stable.{sort-stable, sort-unique}
+use Rattle.kept_list.specs.Laws.LeftOut.{not-taken}
+use Rattle.kept_list.specs.Entry.{sameScore, better}
+use Rattle.kept_list.specs.Laws.Entry.{better-is, better-order, level-same}
+use Rattle.kept_list.specs.Told.{Fit}
+use Rattle.kept_list.specs.Laws.Told.{numbers-kept, out-of-best}
 use Rattle.kept_list.specs.Lent.{Lent, packedOf, scoreOf, entries, written, places, after, settled}
-use Rattle.kept_list.specs.Laid.{RoomFor, entries-written, length-beside, settled-in, settleAll, settle-all}
-use Rattle.kept_list.specs.WellKept.{WellKept, well-kept, is-well-kept}
+use Rattle.kept_list.specs.Laid.{RoomFor, settleAll}
+use Rattle.kept_list.specs.Laws.Laid.{entries-written, length-beside, settled-in, settle-all}
+use Rattle.kept_list.specs.WellKept.{WellKept}
+use Rattle.kept_list.specs.Laws.WellKept.{well-kept, is-well-kept}
 use Rattle.kept_list.specs.Push.{isNumber, sound, wellKept, tests, verdictOf, left, ifAccepted, pushed}
 
 -- ---- the order: greater score first by total order; equal scores: smaller packed number first

@@ -8,7 +8,7 @@ use Rattle.refusal.specs.declared.Refusal.the-variants.{NothingToKeep, WrongKep
 use Rattle.refusal.specs.declared.Verdict.{Verdict}
 use Rattle.refusal.specs.declared.Verdict.the-variants.{Accepted, Refused}
 use Rattle.refusal.specs.First.{Test, _gives_, firstOf}
-use Rattle.lists.specs.Lists.{every}
+use Rattle.sequences.specs.Lists.{every}
 use Rattle.kept_list.specs.declared.Scored.{Scored}
 use Rattle.kept_list.specs.Keep.{inOrder}
 use Rattle.kept_list.specs.Entry.{better}

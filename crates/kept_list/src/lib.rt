@@ -1,5 +1,5 @@
 // The kept list: the k best ranges found so far, best first. It lies in lent memory as two slices side by side, packed
-// numbers and scores, with the number of entries beside them. A push with its refusals stands in crate pushing.
+// numbers and scores, with the number of entries beside them. A push with its refusals stands in crate kept_push.
 ghost use mathlib.Core.Path.{_≡_};
 ghost use Prim.Native.Nat.{_≤_, _<_, _+_};
 ghost use lib.ListN.{length as len};
@@ -36,7 +36,8 @@ impl Scored {
 // values of the format is said for whoever relies on it.
 fn four_below(i: usize, scores: &[f32], x: f32) -> bool
     requires { ⌜ (4 ≤ i) × (i < len (now scores)) ⌝ }
-    ensures { λ r. ⌜ (r ≡ fourBelow x i (now (scores .entry))) × Fitting x (now (scores .entry)) ⌝ }
+    ensures answer { λ r. ⌜ r ≡ fourBelow x i (now (scores .entry)) ⌝ }
+    ensures fits { λ r. ⌜ Fitting x (now (scores .entry)) ⌝ }
 {
     let a = i - 1;
     let b = i - 2;
@@ -89,7 +90,8 @@ fn pass_scores(i: usize, scores: &mut [f32], x: f32)
 // The entry at a place is exchanged with the four above it at once: each goes down by one.
 fn pass_four(i: usize, packed: &mut [u64], scores: &mut [f32], e: Scored)
     requires { ⌜ (4 ≤ i) × (i < len (now packed)) × (i < len (now scores)) ⌝ }
-    ensures { λ _. ⌜ (now (packed .exit) ≡ fourPassed 0 (e .packed) i (now (packed .entry))) × (now (scores .exit) ≡ fourPassed nan (e .score) i (now (scores .entry))) ⌝ }
+    ensures packed { λ _. ⌜ now (packed .exit) ≡ fourPassed 0 (e .packed) i (now (packed .entry)) ⌝ }
+    ensures scores { λ _. ⌜ now (scores .exit) ≡ fourPassed nan (e .score) i (now (scores .entry)) ⌝ }
 {
     pass_packed(i, packed, e.packed);
     pass_scores(i, scores, e.score);

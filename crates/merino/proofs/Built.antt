@@ -1,14 +1,14 @@
--- What crosses to C of a build, from what the build left. Assumes nothing.
+-- What crosses to C of a build, from what the build left.
 use Prim.Native.Nat.{ℕ}
 use mathlib.Core.Path.{_≡_, ap, _∙_}
 use mathlib.Core.List.{List}
 use Rattle.configuration.specs.declared.BlockingStrategy.{BlockingStrategy}
 use Rattle.configuration.specs.declared.SummarizationStrategy.{SummarizationStrategy}
 use Rattle.documents.specs.Documents.{Documents}
-use Rattle.building.specs.declared.BuildAnswer.{BuildAnswer}
-use Rattle.building.specs.Built.{input}
-use Rattle.building.specs.Building.{Lent, InNumbers, numbers, inNumbers, leaves, builds}
-use Rattle.build_numbers.specs.Shown.{ShownBuilt, shownBuilt, seenBuilt}
+use Rattle.build_meaning.specs.declared.BuildAnswer.{BuildAnswer}
+use Rattle.build_meaning.specs.Built.{input}
+use Rattle.build_meaning.specs.Building.{Lent, InNumbers, numbers, inNumbers, leaves, builds}
+use Rattle.c_build.specs.Shown.{ShownBuilt, shownBuilt, seenBuilt}
 
 pub build-shows : (d : ℕ) (b b' : BlockingStrategy) (k k' : SummarizationStrategy) (ds : Documents) (ids cs : List ℕ) (l : Lent) (a : BuildAnswer) (m : Lent) {n p o c e s : ℕ}
     → b ≡ b' → k ≡ k' → leaves a m ≡ builds (input d b k ds ids cs) l → numbers n p o c e s ≡ inNumbers a → shownBuilt n p o c e s m ≡ seenBuilt (builds (input d b' k' ds ids cs) l)

@@ -1,4 +1,4 @@
--- What crosses to C of a push, from what the push left. Assumes nothing.
+-- What crosses to C of a push, from what the push left.
 use Prim.Native.Nat.{ℕ}
 use mathlib.Core.Path.{_≡_, ap, _∙_}
 use Rattle.refusal.specs.declared.Verdict.{Verdict}

@@ -1,10 +1,10 @@
 // The C function that builds a posting list.
 ghost use mathlib.Core.Path.{_≡_};
 ghost use Rattle.documents.specs.Documents.{documents};
-ghost use Rattle.building.specs.Built.{input};
-ghost use Rattle.building.specs.Building.{outputs, scratches, lent, builds};
-ghost use Rattle.build_numbers.specs.Chosen.{blockingOf, summarizationOf};
-ghost use Rattle.build_numbers.specs.Shown.{shownBuilt, seenBuilt};
+ghost use Rattle.build_meaning.specs.Built.{input};
+ghost use Rattle.build_meaning.specs.Building.{outputs, scratches, lent, builds};
+ghost use Rattle.c_build.specs.Chosen.{blockingOf, summarizationOf};
+ghost use Rattle.c_build.specs.Shown.{shownBuilt, seenBuilt};
 
 // Builds a posting list: posting_list::build with the strategies that the numbers choose. The last five are left with the sizes of
 // the list, and with 0 where the build is refused.
@@ -41,7 +41,7 @@ pub extern "C" fn merino_build(
     starts: &mut [u64],
     slots: &mut [u64],
     weights: &mut [f32],
-    scores: &mut [f32],
+    sums: &mut [f32],
     keys: &mut [u64],
     postings_written: &mut u64,
     offsets_written: &mut u64,
@@ -50,18 +50,23 @@ pub extern "C" fn merino_build(
     summaries_written: &mut u64,
 ) -> u64
     ensures { λ r. ⌜ shownBuilt r (now («postings_written» .exit)) (now («offsets_written» .exit)) (now («components_written» .exit)) (now («entries_written» .exit)) (now («summaries_written» .exit))
-        (lent (outputs (now (postings .exit)) (now («block_offsets» .exit)) (now («summary_components» .exit)) (now («component_offsets» .exit)) (now («summary_ids» .exit)) (now (codes .exit)) (now (minimums .exit)) (now (steps .exit))) (scratches (now (order .exit)) (now (blocks .exit)) (now (sorted .exit)) (now (known .exit)) (now (taken .exit)) (now (counts .exit)) (now (starts .exit)) (now (slots .exit)) (now (weights .exit)) (now (scores .exit)) (now (keys .exit))))
-        ≡ seenBuilt (builds (input dimension (blockingOf blocking «block_size» «centroid_fraction» «min_cluster_size» «doc_cut») (summarizationOf summarization «n_components» «summary_energy») (documents (now (offsets .entry)) (now (components .entry)) (now (values .entry))) (now (ids .entry)) (now (centroids .entry)))
-        (lent (outputs (now (postings .entry)) (now («block_offsets» .entry)) (now («summary_components» .entry)) (now («component_offsets» .entry)) (now («summary_ids» .entry)) (now (codes .entry)) (now (minimums .entry)) (now (steps .entry))) (scratches (now (order .entry)) (now (blocks .entry)) (now (sorted .entry)) (now (known .entry)) (now (taken .entry)) (now (counts .entry)) (now (starts .entry)) (now (slots .entry)) (now (weights .entry)) (now (scores .entry)) (now (keys .entry))))) ⌝ }
+        (lent (outputs (now (postings .exit)) (now («block_offsets» .exit)) (now («summary_components» .exit)) (now («component_offsets» .exit)) (now («summary_ids» .exit)) (now (codes .exit))
+        (now (minimums .exit)) (now (steps .exit))) (scratches (now (order .exit)) (now (blocks .exit)) (now (sorted .exit)) (now (known .exit)) (now (taken .exit)) (now (counts .exit))
+        (now (starts .exit)) (now (slots .exit)) (now (weights .exit)) (now (sums .exit)) (now (keys .exit))))
+        ≡ seenBuilt (builds (input dimension (blockingOf blocking «block_size» «centroid_fraction» «min_cluster_size» «doc_cut») (summarizationOf summarization «n_components» «summary_energy»)
+        (documents (now (offsets .entry)) (now (components .entry)) (now (values .entry))) (now (ids .entry)) (now (centroids .entry)))
+        (lent (outputs (now (postings .entry)) (now («block_offsets» .entry)) (now («summary_components» .entry)) (now («component_offsets» .entry)) (now («summary_ids» .entry)) (now (codes .entry))
+        (now (minimums .entry)) (now (steps .entry))) (scratches (now (order .entry)) (now (blocks .entry)) (now (sorted .entry)) (now (known .entry)) (now (taken .entry)) (now (counts .entry))
+        (now (starts .entry)) (now (slots .entry)) (now (weights .entry)) (now (sums .entry)) (now (keys .entry))))) ⌝ }
 {
-    let cut = build_numbers::blocking_of(
+    let cut = c_build::blocking_of(
         blocking,
         block_size,
         centroid_fraction,
         min_cluster_size,
         doc_cut,
     );
-    let kept = build_numbers::summarization_of(summarization, n_components, summary_energy);
+    let kept = c_build::summarization_of(summarization, n_components, summary_energy);
     let answer = posting_list::build(
         dimension,
         cut,
@@ -88,10 +93,10 @@ pub extern "C" fn merino_build(
         starts,
         slots,
         weights,
-        scores,
+        sums,
         keys,
     );
-    build_numbers::show_built(
+    c_build::show_built(
         answer,
         postings_written,
         offsets_written,

@@ -8,13 +8,13 @@ ghost use mathlib.Core.Path.{_≡_};
 ghost use Rattle.kept_list.specs.Entry.{scored};
 ghost use Rattle.kept_list.specs.Lent.{lent};
 ghost use Rattle.kept_list.specs.Push.{pushed};
-ghost use Rattle.quantized_summary.specs.Layout.{arrays};
-ghost use Rattle.probing.specs.Probed.{terms, lends};
+ghost use Rattle.sparse_scores.specs.Layout.{arrays};
+ghost use Rattle.search_probe.specs.Probed.{terms, lends};
 ghost use Rattle.search.specs.Searched.{question};
-ghost use Rattle.search_numbers.specs.Found.{shown, seen};
+ghost use Rattle.c_search.specs.Found.{shown, seen};
 ghost use Rattle.merino.specs.Pushed.{crossed, seen as seenPushed};
 
-// Pushes an entry onto the kept list of `length` entries in `packed` and `scores`: pushing::push.
+// Pushes an entry onto the kept list of `length` entries in `packed` and `scores`: kept_push::push.
 #[no_mangle]
 pub extern "C" fn merino_push(
     k: u64,
@@ -27,7 +27,7 @@ pub extern "C" fn merino_push(
     ensures { λ r. ⌜ crossed r (lent (now (length .exit)) (now (packed .exit)) (now (scores .exit)))
         ≡ seenPushed (pushed k (scored «new_packed» «new_score») (lent (now (length .entry)) (now (packed .entry)) (now (scores .entry)))) ⌝ }
 {
-    let verdict = pushing::push(
+    let verdict = kept_push::push(
         k,
         length,
         packed,
@@ -43,17 +43,17 @@ pub extern "C" fn merino_push(
 #[no_mangle]
 pub extern "C" fn merino_search(
     by_score: u64,
-    asked: &[u32],
-    weights: &[f32],
+    query_components: &[u32],
+    query_values: &[f32],
     k: u64,
     factor: f32,
     components: &[u32],
     values: &[f32],
     postings: &[u64],
-    blocks: &[u64],
-    present: &[u32],
-    offsets: &[u64],
-    ids: &[u16],
+    block_offsets: &[u64],
+    summary_components: &[u32],
+    component_offsets: &[u64],
+    summary_ids: &[u16],
     codes: &[u8],
     minimums: &[f32],
     steps: &[f32],
@@ -61,29 +61,32 @@ pub extern "C" fn merino_search(
     packed: &mut [u64],
     scores: &mut [f32],
     visits: &mut [u8],
-    dots: &mut [f32],
-    order: &mut [u64],
+    block_scores: &mut [f32],
+    block_order: &mut [u64],
     position: &mut u64,
     evaluated: &mut u64,
     skipped: &mut u64,
 ) -> u64
-    ensures { λ r. ⌜ shown r (now (position .exit)) (now (evaluated .exit)) (now (skipped .exit)) (lends (lent (now (length .exit)) (now (packed .exit)) (now (scores .exit))) (now (visits .exit))) (now (dots .exit)) (now (order .exit))
-        ≡ seen «by_score» (question k factor (terms (now (asked .entry)) (now (weights .entry)) (now (components .entry)) (now (values .entry))) (now (postings .entry)) (now (blocks .entry)) (arrays (now (present .entry)) (now (offsets .entry)) (now (ids .entry)) (now (codes .entry)) (now (minimums .entry)) (now (steps .entry))))
-        (lends (lent (now (length .entry)) (now (packed .entry)) (now (scores .entry))) (now (visits .entry))) (now (dots .entry)) (now (order .entry)) ⌝ }
+    ensures { λ r. ⌜ shown r (now (position .exit)) (now (evaluated .exit)) (now (skipped .exit)) (lends (lent (now (length .exit)) (now (packed .exit))
+        (now (scores .exit))) (now (visits .exit))) (now («block_scores» .exit)) (now («block_order» .exit))
+        ≡ seen «by_score» (question k factor (terms (now («query_components» .entry)) (now («query_values» .entry)) (now (components .entry)) (now (values .entry)))
+        (now (postings .entry)) (now («block_offsets» .entry)) (arrays (now («summary_components» .entry)) (now («component_offsets» .entry)) (now («summary_ids» .entry))
+        (now (codes .entry)) (now (minimums .entry)) (now (steps .entry)))) (lends (lent (now (length .entry)) (now (packed .entry)) (now (scores .entry)))
+        (now (visits .entry))) (now («block_scores» .entry)) (now («block_order» .entry)) ⌝ }
 {
-    search_numbers::find(
+    c_search::find(
         by_score,
-        asked,
-        weights,
+        query_components,
+        query_values,
         k,
         factor,
         components,
         values,
         postings,
-        blocks,
-        present,
-        offsets,
-        ids,
+        block_offsets,
+        summary_components,
+        component_offsets,
+        summary_ids,
         codes,
         minimums,
         steps,
@@ -91,8 +94,8 @@ pub extern "C" fn merino_search(
         packed,
         scores,
         visits,
-        dots,
-        order,
+        block_scores,
+        block_order,
         position,
         evaluated,
         skipped,

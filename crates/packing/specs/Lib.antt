@@ -1,4 +1,3 @@
 pub mod Packing
-pub mod Laws
 pub mod Promises
-pub mod Cases
+pub mod Laws

@@ -1,4 +1,5 @@
--- Packing: document 01, "Leaves first". The limits and the place of the two parts stand here and nowhere else; other crates go by Laws.
+-- Packing: document 01, "Leaves first". The limits and the place of the two parts stand here and nowhere else; other crates go by
+-- Laws/Packing.
 use Prim.Native.Nat.{ℕ, _+_, _-_, _*_, _/_, _%_, _^_}
 use mathlib.Core.List.{List, [], _∷_}
 use mathlib.Core.Logic.{_⊎_, inl, inr}

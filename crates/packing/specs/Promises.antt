@@ -1,10 +1,10 @@
--- What packing promises, over the definitions alone and in document 01's numbers. Assumes nothing.
+-- What packing promises, over the definitions alone and in document 01's numbers.
 use Prim.Native.Nat.{ℕ, _+_, _-_, _≤_, _<_, _^_}
 use mathlib.Core.Path.{_≡_, ap, _∙_}
 use mathlib.Core.Logic.{inl, inr}
 use native.Mathlib.Omega.{arith}
 use Rattle.packing.specs.Packing.{startLimit, lengthLimit, packOf, startOf, lengthOf, rangeLength, packed, unpacked, inNumbers}
-use Rattle.packing.specs.Laws.{start-of-pack, length-of-pack, pack-of-parts, start-within, length-within, start-refused, length-refused, range-packed}
+use Rattle.packing.specs.Laws.Packing.{start-of-pack, length-of-pack, pack-of-parts, start-within, length-within, start-refused, length-refused, range-packed}
 
 -- ---- which of the three answers is given
 pub refuses-start : (start end : ℕ) → startLimit ≤ start → inNumbers (packed start end) ≡ inl 1
@@ -18,7 +18,12 @@ packs start end h l = ap inNumbers (range-packed start end h l)
 
 -- ---- there and back
 -- what was packed is unpacked to its start and its length
-pub unpack-of-pack : (start end : ℕ) → rangeLength start end ≤ lengthLimit → unpacked (packOf start (rangeLength start end)) ≡ record { start = record { 0 = start }; length = end - start; end = start + (end - start) }
+pub unpack-of-pack : (start end : ℕ) → rangeLength start end ≤ lengthLimit → unpacked (packOf start (rangeLength start end)) ≡ record {
+  start = record { 0 = start };
+  length = end - start;
+  end = start
+      + (end - start);
+}
 unpack-of-pack start end l = rw (start-of-pack start (rangeLength start end) l, length-of-pack start (rangeLength start end) l)
 
 -- and every packed number, taken apart, packs to itself

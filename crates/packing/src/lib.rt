@@ -1,5 +1,5 @@
 // A document's range of terms in one number, as a posting list holds it.
-use names::RangeStart;
+use number_types::RangeStart;
 use refusal::Refusal;
 ghost use mathlib.Core.Path.{_≡_};
 ghost use Prim.Native.Nat.{_-_};

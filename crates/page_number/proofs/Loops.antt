@@ -1,12 +1,12 @@
--- What a search by halves learns at each step. Assumes nothing.
+-- What a search by halves learns at each step.
 use Prim.Native.Nat.{ℕ, _+_, _≤_, _<_}
 use native.Mathlib.Omega.{arith}
 use mathlib.Core.Path.{_≡_}
 use mathlib.Core.Bool.{true}
 use mathlib.Core.List.{List}
 use lib.ListN.{length, getD}
-use Rattle.lists.specs.Lists.{neverFalls}
-use Rattle.documents.specs.Laws.{never-falls-at}
+use Rattle.sequences.specs.Lists.{neverFalls}
+use Rattle.documents.specs.Laws.Documents.{never-falls-at}
 
 -- ---- a search by halves
 module _ (os : List ℕ) (s : ℕ) (R : neverFalls os ≡ true) where

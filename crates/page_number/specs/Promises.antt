@@ -1,4 +1,4 @@
--- What the page number is, in words and in document 01's numbers: document 01, "Page number". Assumes nothing.
+-- What the page number is, in words and in document 01's numbers: document 01, "Page number".
 use Prim.Native.Nat.{ℕ, zero, suc, _<_}
 use native.Mathlib.Omega.{arith}
 use native.Mathlib.Decide.{ℕ-discrete}
@@ -10,7 +10,7 @@ use lib.ListN.{getD}
 use Rattle.documents.specs.Documents.{count}
 use Rattle.documents.specs.Checks.{offsetsHoldFree}
 use Rattle.page_number.specs.Answers.{pageNumber, inNumbers}
-use Rattle.page_number.specs.Pages.{page-refused, page-found, page-none}
+use Rattle.page_number.specs.Laws.Pages.{page-refused, page-found, page-none}
 
 -- i is the smallest of n documents whose start is s
 pub record Smallest (offsets : List ℕ) (s n i : ℕ) : Type 0 where

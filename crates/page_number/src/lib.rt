@@ -3,10 +3,10 @@ ghost use mathlib.Core.Path.{_≡_};
 ghost use Prim.Native.Nat.{_≤_};
 ghost use lib.ListN.{length};
 ghost use mathlib.Core.Bool.{true};
-ghost use Rattle.lists.specs.Lists.{neverFalls};
+ghost use Rattle.sequences.specs.Lists.{neverFalls};
 ghost use Rattle.page_number.specs.Answers.{pageNumber, Found};
-use names::DocumentId;
-use names::RangeStart;
+use number_types::DocumentId;
+use number_types::RangeStart;
 use refusal::Refusal;
 
 // The document that a start belongs to, or the refusal: 6 or 15.

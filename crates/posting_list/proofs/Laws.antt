@@ -1,32 +1,32 @@
--- Blocks made or refused, and then the end of a build: together that is the build. Assumes nothing.
+-- Blocks made or refused, and then the end of a build: together that is the build.
 use Prim.Native.Nat.{ℕ, _<_}
 use mathlib.Core.Path.{_≡_, refl, ap, _∙_}
 use mathlib.Core.List.{List}
 use lib.ListN.{length, getD}
 use lib.Dec.{T}
 use lib.Ieee.{Float, nan, binary32, fits}
-use Rattle.building.specs.declared.BuildAnswer.{BuildAnswer}
-use Rattle.building.specs.Built.{Input, blockedBy}
-use Rattle.building.specs.Building.{Outputs, Scratches, scratches, lent, clearedOutput, leaves, builds}
-use Rattle.list_ready.specs.declared.ListBlocks.{ListBlocks}
-use Rattle.list_ready.specs.declared.ListBlocks.the-variants as made
-use Rattle.list_ready.specs.Made as blocking
-use Rattle.list_layout.specs.Laid as layout
-use Rattle.list_finish.specs.Finished.{finished, finishedBy}
-use Rattle.list_whole.specs.Whole.{makes, refused-so, written-so}
+use Rattle.build_meaning.specs.declared.BuildAnswer.{BuildAnswer}
+use Rattle.build_meaning.specs.Built.{Input, blockedBy}
+use Rattle.build_meaning.specs.Building.{Outputs, Scratches, scratches, lent, clearedOutput, leaves, builds}
+use Rattle.build_ready.specs.declared.ListBlocks.{ListBlocks}
+use Rattle.build_ready.specs.declared.ListBlocks.the-variants as made
+use Rattle.build_ready.specs.Made as blocking
+use Rattle.build_layout.specs.Laid as layout
+use Rattle.build_result.specs.Finished.{finished, finishedBy}
+use Rattle.build_whole.specs.Laws.Whole.{makes, refused-so, written-so}
 
 module _ (g : Input) (s : Scratches) (b : ListBlocks) (s1 : Scratches) (e : blocking.left b s1 ≡ blocking.leftBy (makes g s) (blockedBy (g .blocking) (g .documents) (g .centroids) (g .ids)) s)
     (narrow : (k : ℕ) → getD (g .documents .components) k 0 < 4294967296) (fit : (k : ℕ) → T (fits binary32 (getD (g .documents .values) k nan))) (o : Outputs) where
-  pub built-so : (r : BuildAnswer) (o' : Outputs) (order' blocks' counts' starts' keys' : List ℕ) (scores' : List Float)
-      → finished (layout.left r o' keys' counts' scores' starts') order' blocks' ≡ finishedBy b (g .dimension) (g .summarization) (g .documents) (length (g .ids)) o (s1 .order) (s1 .blocks) (s1 .keys) (s1 .counts) (s1 .scores) (s1 .starts)
+  pub built-so : (r : BuildAnswer) (o' : Outputs) (order' blocks' counts' starts' keys' : List ℕ) (sums' : List Float)
+      → finished (layout.left r o' keys' counts' sums' starts') order' blocks' ≡ finishedBy b (g .dimension) (g .summarization) (g .documents) (length (g .ids)) o (s1 .order) (s1 .blocks) (s1 .keys) (s1 .counts) (s1 .sums) (s1 .starts)
       → length (s1 .order) ≡ length (s .order) → length (s1 .blocks) ≡ length (s .blocks)
-      → leaves r (lent o' (scratches order' blocks' (s1 .sorted) (s1 .known) (s1 .taken) counts' starts' (s1 .slots) (s1 .weights) scores' keys')) ≡ builds g (lent o s)
-  built-so r o' order' blocks' counts' starts' keys' scores' f lo lb = go b refl f
+      → leaves r (lent o' (scratches order' blocks' (s1 .sorted) (s1 .known) (s1 .taken) counts' starts' (s1 .slots) (s1 .weights) sums' keys')) ≡ builds g (lent o s)
+  built-so r o' order' blocks' counts' starts' keys' sums' f lo lb = go b refl f
     where
       go : (z : ListBlocks) → b ≡ z
-          → finished (layout.left r o' keys' counts' scores' starts') order' blocks' ≡ finishedBy z (g .dimension) (g .summarization) (g .documents) (length (g .ids)) o (s1 .order) (s1 .blocks) (s1 .keys) (s1 .counts) (s1 .scores) (s1 .starts)
-          → leaves r (lent o' (scratches order' blocks' (s1 .sorted) (s1 .known) (s1 .taken) counts' starts' (s1 .slots) (s1 .weights) scores' keys')) ≡ builds g (lent o s)
+          → finished (layout.left r o' keys' counts' sums' starts') order' blocks' ≡ finishedBy z (g .dimension) (g .summarization) (g .documents) (length (g .ids)) o (s1 .order) (s1 .blocks) (s1 .keys) (s1 .counts) (s1 .sums) (s1 .starts)
+          → leaves r (lent o' (scratches order' blocks' (s1 .sorted) (s1 .known) (s1 .taken) counts' starts' (s1 .slots) (s1 .weights) sums' keys')) ≡ builds g (lent o s)
       go (made.Refused x) w f =
           (λ j. leaves (f j .written .answer) (lent (f j .written .output) (scratches (f j .order) (f j .blocks) (s1 .sorted) (s1 .known) (s1 .taken) (f j .written .places) (f j .written .counts) (s1 .slots) (s1 .weights) (f j .written .maxima) (f j .written .keys))))
           ∙ refused-so g s b s1 e x o (clearedOutput o) w refl
-      go (made.Offsets n) w f = written-so g s b s1 e n w narrow fit o r o' order' blocks' counts' starts' keys' scores' (ap (λ f. f .written) f) (ap (λ f. f .order) f) lo (ap (λ f. f .blocks) f) lb
+      go (made.Offsets n) w f = written-so g s b s1 e n w narrow fit o r o' order' blocks' counts' starts' keys' sums' (ap (λ f. f .written) f) (ap (λ f. f .order) f) lo (ap (λ f. f .blocks) f) lb

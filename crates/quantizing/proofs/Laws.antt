@@ -1,4 +1,4 @@
--- What the proofs of the loops cite, over lists alone. Assumes nothing.
+-- What the proofs of the loops cite, over lists alone.
 use mathlib.Core.Path.{_≡_, refl, sym, ap, _∙_}
 use mathlib.Core.List.{List, [], _∷_, _++_, map, map-append, append-assoc}
 use Prim.Native.Nat.{ℕ, suc, _+_, _≤_, _<_, min, max}
@@ -8,7 +8,7 @@ use lib.ListN.{length, getD, take, drop, set, length-map, length-take, drop-of-l
 use lib.Seq.{take-suc, drop-cons, set-at}
 use lib.Ieee.{Float, nan}
 use Rattle.float32.specs.Key.{keyOf}
-use Rattle.quantizing.specs.Extremes.{lowest, highest}
+use Rattle.quantizing.specs.Laws.Extremes.{lowest, highest}
 
 -- the first i values are coded, and what was lent stands past them
 abbrev pub coded : (Float → ℕ) → List Float → List ℕ → ℕ → List ℕ

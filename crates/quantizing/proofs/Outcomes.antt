@@ -1,4 +1,4 @@
--- What quantizing answers and leaves, by the tests that the code makes. Assumes nothing.
+-- What quantizing answers and leaves, by the tests that the code makes.
 use mathlib.Core.Path.{_≡_, sym, ap, _∙_}
 use mathlib.Core.Bool.{Bool, true, false, _&&_}
 use mathlib.Core.List.{List, _++_, map}
@@ -8,12 +8,12 @@ use lib.ListN.{length, drop}
 use lib.Ieee.{Float}
 use borrow.Author.Tests.{eq-eqb, ne-eqb, lt-ltb, le-ltb}
 use Rattle.refusal.specs.declared.Refusal.the-variants.{EmptySummary, WrongTerms, BufferTooShort}
-use Rattle.lists.specs.Lists.{every}
+use Rattle.sequences.specs.Lists.{every}
 use Rattle.float32.specs.Bound.{inBound}
 use Rattle.quantizing.specs.declared.Extent.{Extent}
 use Rattle.quantizing.specs.declared.Quantized.the-variants.{Refused, Summary}
 use Rattle.quantizing.specs.Demand3.{F32s}
-use Rattle.quantizing.specs.Ends.{every-by-ends}
+use Rattle.quantizing.specs.Laws.Ends.{every-by-ends}
 use Rattle.quantizing.specs.Quantizing.{least, greatest, extentOf, stepOf, codeOf, stepFor, codesFor, left, quantized}
 
 pub no-values : (values : List Float) (codes : List ℕ) → length values ≡ 0 → left (Refused EmptySummary) codes ≡ quantized values codes

@@ -1,6 +1,7 @@
 -- Demand 3: a value read back from its code is off by at most half a step, plus 1/16384 of a step, plus 1/8388608 of the larger magnitude
 -- of least and greatest, for every accepted list whose step is at least 2 ^ -126. Every rounding is in it.
--- It says so of what `quantize` answers and leaves in the lent codes, over whole numbers. This file is the statement; `demand-3` of Promises proves it.
+-- It says so of what `quantize` answers and leaves in the lent codes, over whole numbers. This file is the statement; `demand-3` of
+-- Promises proves it.
 use Prim.Native.Nat.{ℕ, _+_, _-_, _*_, _≤_, _<_, max}
 use mathlib.Core.Path.{_≡_}
 use mathlib.Core.Bool.{false}
@@ -23,7 +24,8 @@ use Rattle.quantizing.specs.Quantizing.{greatest, readBack, left, quanti
 abbrev pub apart : Float → Float → ℕ
 apart x y = (above x + below y - (above y + below x)) + (above y + below x - (above x + below y))
 
--- 8388608 times the three parts that a value may be off by, in units: 8388608 / 2 and 8388608 / 16384 of a step, and the whole larger magnitude
+-- 8388608 times the three parts that a value may be off by, in units: 8388608 / 2 and 8388608 / 16384 of a step, and the whole larger
+-- magnitude
 abbrev pub allowance : Float → Float → Float → ℕ
 allowance low high step = 4194304 * mag step + 512 * mag step + max (mag low) (mag high)
 

@@ -1,11 +1,7 @@
 pub mod Quantizing
 pub mod Demand3
-pub mod Nearest
-pub mod Chain
-pub mod Steps
-pub mod Drift
 pub mod Extremes
 pub mod Ends
 pub mod Accepted
 pub mod Promises
-pub mod Cases
+pub mod Laws

@@ -1,5 +1,5 @@
 -- What quantizing promises, with no word on code: which answer is given when, in document 01's numbers, and what holds of every accepted
--- list. Assumes nothing.
+-- list.
 use mathlib.Core.Path.{_≡_, refl, sym, ap, _∙_, subst}
 use mathlib.Core.Bool.{true, false}
 use mathlib.Core.Logic.{_⊎_, inl, inr}
@@ -18,22 +18,25 @@ use Rattle.refusal.specs.declared.Refusal.the-variants.{EmptySummary, WrongTerm
 use Rattle.refusal.specs.declared.Verdict.{Verdict}
 use Rattle.refusal.specs.declared.Verdict.the-variants.{Accepted, Refused}
 use Rattle.refusal.specs.First.{firstOf}
-use Rattle.lists.specs.Lists.{every}
+use Rattle.sequences.specs.Lists.{every}
 use Rattle.float32.specs.Bound.{inBound, Bounded}
-use Rattle.float32.specs.BoundLaws.{in-bound-bounded, bounded-in-bound}
-use Rattle.float32.specs.OrderLaws.{atMost-ordered, atMost-trans}
-use Rattle.float32.specs.Rounded.{Near}
+use Rattle.float32.specs.Laws.BoundLaws.{in-bound-bounded, bounded-in-bound}
+use Rattle.float32.specs.Laws.OrderLaws.{atMost-ordered, atMost-trans}
+use Rattle.float32.specs.Laws.Rounded.{Near}
 use Rattle.float32.specs.Rounding.{roundAway, byteOf}
-use Rattle.float32.specs.Sums.{Within, within-finite, read-back-within}
-use Rattle.float32.specs.Tests.{is-true, yes}
+use Rattle.float32.specs.Sums.{Within}
+use Rattle.float32.specs.Laws.Sums.{within-finite, read-back-within}
+use Rattle.float32.specs.Laws.Tests.{is-true, yes}
 use Rattle.float32.specs.Units.{above, below, Ordered}
 use Rattle.quantizing.specs.declared.Quantized.{Quantized}
-use Rattle.quantizing.specs.Accepted.{Quantizable, answered}
+use Rattle.quantizing.specs.Accepted.{Quantizable}
+use Rattle.quantizing.specs.Laws.Accepted.{answered}
 use Rattle.quantizing.specs.Demand3.{Demand3, Drifts, F32s, allowance, leastStep}
-use Rattle.quantizing.specs.Drift as drift
-use Rattle.quantizing.specs.Ends.{Ends, ends}
+use Rattle.quantizing.specs.Laws.Drift as drift
+use Rattle.quantizing.specs.Ends.{Ends}
+use Rattle.quantizing.specs.Laws.Ends.{ends}
 use Rattle.quantizing.specs.Quantizing.{least, greatest, stepOf, codeOf, readBack, stepFor, codesFor, tests, left, inNumbers, by, quantized, minimumAllowed, stepAllowed}
-use Rattle.quantizing.specs.Steps.{step-of-bounded, step-stored}
+use Rattle.quantizing.specs.Laws.Steps.{step-of-bounded, step-stored}
 
 -- ---- 0: which answer is given, and the lent codes afterwards
 -- the number of a refusal on the left, the least value and the step on the right
@@ -86,7 +89,8 @@ past low step values lent k =
     ∙ getD-append-add (map f values) (drop (length values) lent) k 0
     ∙ getD-drop (length values) lent k 0
 
-pub each-code : (values : List Float) (lent codes : List ℕ) (answer : Quantized) (low step : Float) → left answer codes ≡ quantized values lent → inNumbers answer ≡ inr (low, step) → EachCode values lent codes low step
+pub each-code : (values : List Float) (lent codes : List ℕ) (answer : Quantized) (low step : Float) → left answer codes ≡ quantized values lent → inNumbers answer ≡ inr (low, step)
+    → EachCode values lent codes low step
 each-code values lent codes answer low step e s =
     let a = answered values lent codes answer low step e s in
     record {
@@ -155,7 +159,8 @@ demand-3 values lent codes answer low step fs e s st k h =
     (subst (λ (z : Float). Drifts z (greatest values) step v (readBack z step (codeOf z step v))) (sym (a .low-is))
     (subst (λ (z : Float). Drifts (least values) (greatest values) z v (readBack (least values) z (codeOf (least values) z v))) (sym (a .step-is)) (value-drift values fs (a .list) p k h)))
 
--- ---- 3: what is read back is finite for every code, minimum and step that a list may store, whoever wrote them: at most 2 ^ 41, in units of 2 ^ -149
+-- ---- 3: what is read back is finite for every code, minimum and step that a list may store, whoever wrote them: at most 2 ^ 41, in units
+-- of 2 ^ -149
 step-is-bounded : (step : Float) → T (fits binary32 step) → stepAllowed step ≡ true → Bounded step
 unfolding stepAllowed
 step-is-bounded step f h = in-bound-bounded step f (is-true (inBound step) (and-l (inBound step) (le (fin false 0 (pos 0)) step) (yes (stepAllowed step) h)))

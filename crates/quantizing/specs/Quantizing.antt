@@ -12,7 +12,7 @@ use Rattle.refusal.specs.declared.Verdict.{Verdict}
 use Rattle.refusal.specs.declared.Verdict.the-variants.{Accepted, Refused}
 use Rattle.refusal.specs.Refusals.{numberOf}
 use Rattle.refusal.specs.First.{Test, _gives_, firstOf}
-use Rattle.lists.specs.Lists.{those, every, firstOr}
+use Rattle.sequences.specs.Lists.{those, every, firstOr}
 use Rattle.float32.specs.Order.{atMost}
 use Rattle.float32.specs.Bound.{inBound}
 use Rattle.float32.specs.Rounding.{byteOf}

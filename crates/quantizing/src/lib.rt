@@ -1,6 +1,6 @@
 // Quantizing: the values of a summary as one byte each, between their least and their greatest, and the values that the bytes stand for.
-use float32::higher;
-use float32::lower;
+use cells::greater_u32;
+use cells::smaller_u32;
 use refusal::Refusal;
 ghost use mathlib.Core.Path.{_≡_};
 ghost use mathlib.Core.List.{_++_, map};
@@ -30,8 +30,8 @@ pub fn extent_of(values: &[f32]) -> Extent
     let mut i = 0;
     while i < values.len() {
         let k = float32::key(values[i]);
-        low = lower(low, k);
-        high = higher(high, k);
+        low = smaller_u32(low, k);
+        high = greater_u32(high, k);
         i += 1;
     }
     Extent {

@@ -1,3 +1,3 @@
 pub mod Refusals
 pub mod First
-pub mod Numbered
+pub mod Laws

@@ -2,7 +2,8 @@
 -- crate of the answer.
 use Prim.Native.Nat.{ℕ}
 use Rattle.refusal.specs.declared.Refusal.{Refusal}
-use Rattle.refusal.specs.declared.Refusal.the-variants.{StartTooLarge, RangeTooLong, NoBlockSize, BufferTooShort, WrongCentroids, WrongDocuments, EmptySummary, OutsideLimits, MalformedList, WrongQuery, NothingToKeep, WrongKeptList, PastTheTerms, WrongTerms, NoSuchStart}
+use Rattle.refusal.specs.declared.Refusal.the-variants.{StartTooLarge, RangeTooLong, NoBlockSize, BufferTooShort, WrongCentroids, WrongDocuments, EmptySummary, OutsideLimits, MalformedList}
+use Rattle.refusal.specs.declared.Refusal.the-variants.{WrongQuery, NothingToKeep, WrongKeptList, PastTheTerms, WrongTerms, NoSuchStart}
 use Rattle.refusal.specs.declared.Verdict.{Verdict}
 use Rattle.refusal.specs.declared.Verdict.the-variants.{Accepted, Refused}
 

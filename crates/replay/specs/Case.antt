@@ -1,4 +1,4 @@
--- A recorded build: what it was given, and whether an answer is the recorded one. src/lib.rt says which word is which.
+-- A recorded build: what it was given, and whether an answer is the recorded one. src/builds.rt says which word is which.
 use Prim.Native.Nat.{ℕ}
 use mathlib.Core.Bool.{Bool, _&&_}
 use mathlib.Core.List.{List, map}
@@ -9,12 +9,12 @@ use Rattle.float32.specs.Key.{keyOf, valueOf}
 use Rattle.configuration.specs.declared.BlockingStrategy.{BlockingStrategy}
 use Rattle.configuration.specs.declared.SummarizationStrategy.{SummarizationStrategy}
 use Rattle.documents.specs.Documents.{documents}
-use Rattle.building.specs.Built.{Input, input}
-use Rattle.building.specs.Building.{Outputs, outputs, InNumbers, inNumbers}
-use Rattle.short_list.specs.Short.{Made, madeShort}
-use Rattle.build_numbers.specs.Chosen.{blockingOf, summarizationOf}
-use Rattle.recorded.specs.Words.{long, sliceAt, spread, itself}
-use Rattle.expected.specs.Held.{held}
+use Rattle.build_meaning.specs.Built.{Input, input}
+use Rattle.build_meaning.specs.Building.{Outputs, outputs, InNumbers, inNumbers}
+use Rattle.build_small.specs.Short.{Made, madeShort}
+use Rattle.c_build.specs.Chosen.{blockingOf, summarizationOf}
+use Rattle.replay_words.specs.Words.{long, sliceAt, spread, itself}
+use Rattle.replay_expected.specs.Held.{held}
 
 -- ---- what it was given
 unfoldable pub blockingIn : List ℕ → BlockingStrategy
@@ -50,16 +50,18 @@ sizesHeld w z =
 
 -- the original's numbers in front, and past them what was there before
 abbrev pub numbersHeld : List ℕ → List ℕ → List ℕ → List ℕ → List ℕ → Bool
-numbersHeld w postings offsets components componentOffsets = held postings (sliceAt w 21 w) 5 && held offsets (sliceAt w 22 w) 6 && held components (sliceAt w 23 w) 7 && held componentOffsets (sliceAt w 24 w) 8
+numbersHeld w postings offsets components componentOffsets = held postings (sliceAt w 21 w) 5 && held offsets (sliceAt w 22 w) 6 && held components (sliceAt w 23 w) 7
+    && held componentOffsets (sliceAt w 24 w) 8
 
 abbrev pub entriesHeld : List ℕ → List ℕ → List ℕ → List Float → List Float → Bool
-entriesHeld w ids codes minimums steps = held ids (sliceAt w 25 w) 9 && held codes (sliceAt w 26 w) 10 && held (map keyOf minimums) (sliceAt w 27 w) oddKey && held (map keyOf steps) (sliceAt w 28 w) oddKey
+entriesHeld w ids codes minimums steps = held ids (sliceAt w 25 w) 9 && held codes (sliceAt w 26 w) 10 && held (map keyOf minimums) (sliceAt w 27 w) oddKey && held (map keyOf steps) (sliceAt w 28 w)
+    oddKey
 
 -- accepted, with both
 unfoldable pub agreed : List ℕ → Made → Bool
 agreed w m =
-    sizesHeld w (inNumbers (m .answer)) && numbersHeld w (m .output .postings) (m .output .offsets) (m .output .components) (m .output .componentOffsets)
-    && entriesHeld w (m .output .ids) (m .output .codes) (m .output .minimums) (m .output .steps)
+    sizesHeld w (inNumbers (m .answer)) && numbersHeld w (m .output .postings) (m .output .blockOffsets) (m .output .summaryComponents) (m .output .componentOffsets)
+    && entriesHeld w (m .output .summaryIds) (m .output .codes) (m .output .minimums) (m .output .steps)
 
 -- whether a recorded build is what a build means
 unfoldable pub agrees : List ℕ → Bool

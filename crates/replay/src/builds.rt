@@ -5,30 +5,30 @@ mod buffers;
 
 use configuration::BlockingStrategy;
 use configuration::SummarizationStrategy;
-use recorded::float;
-use recorded::long;
-use recorded::word;
+use replay_words::float;
+use replay_words::long;
+use replay_words::word;
 ghost use mathlib.Core.Path.{_≡_};
 ghost use lib.ListN.{getD};
 ghost use Rattle.float32.specs.Key.{valueOf};
 ghost use Rattle.documents.specs.Documents.{documents};
-ghost use Rattle.building.specs.Built.{input};
-ghost use Rattle.short_list.specs.Short.{madeShort};
-ghost use Rattle.recorded.specs.Words.{sliceAt};
+ghost use Rattle.build_meaning.specs.Built.{input};
+ghost use Rattle.build_small.specs.Short.{madeShort};
+ghost use Rattle.replay_words.specs.Words.{sliceAt};
 ghost use Rattle.replay.specs.Case.{blockingIn, summarizationIn, oddKey, used, agreed, agrees};
 
 // How the recorded build cuts its list into blocks.
 fn blocking_in(w: &[u32]) -> BlockingStrategy
     ensures { λ r. ⌜ r ≡ blockingIn (now (w .entry)) ⌝ }
 {
-    build_numbers::blocking_of(long(w, 2), long(w, 4), float(w, 6), long(w, 7), long(w, 9))
+    c_build::blocking_of(long(w, 2), long(w, 4), float(w, 6), long(w, 7), long(w, 9))
 }
 
 // Which terms its summaries keep.
 fn summarization_in(w: &[u32]) -> SummarizationStrategy
     ensures { λ r. ⌜ r ≡ summarizationIn (now (w .entry)) ⌝ }
 {
-    build_numbers::summarization_of(long(w, 11), long(w, 13), float(w, 15))
+    c_build::summarization_of(long(w, 11), long(w, 13), float(w, 15))
 }
 
 // The build itself, in buffers that hold other numbers before: whether it is accepted, its results are the original's, and past these
@@ -45,7 +45,8 @@ fn builds_with(
     ids: &[u64],
     centroids: &[u64],
 ) -> bool
-    ensures { λ r. ⌜ r ≡ agreed (now (w .entry)) (madeShort (input dimension blocking summarization (documents (now (offsets .entry)) (now (components .entry)) (now (values .entry))) (now (ids .entry)) (now (centroids .entry))) (used odd)) ⌝ }
+    ensures { λ r. ⌜ r ≡ agreed (now (w .entry)) (madeShort (input dimension blocking summarization (documents (now (offsets .entry)) (now (components .entry)) (now (values .entry)))
+        (now (ids .entry)) (now (centroids .entry))) (used odd)) ⌝ }
 {
     let mut postings = [5u64; 64];
     let mut block_offsets = [6u64; 64];
@@ -55,7 +56,7 @@ fn builds_with(
     let mut codes = [10u8; 256];
     let mut minimums = [odd; 64];
     let mut steps = [odd; 64];
-    let answer = short_list::build(
+    let answer = build_small::build(
         dimension,
         blocking,
         summarization,
@@ -89,7 +90,9 @@ fn builds_with(
 
 // The build of the slices that stand in the words.
 fn builds_from(w: &[u32], longs: &[u64], floats: &[f32]) -> bool
-    ensures { λ r. ⌜ r ≡ agreed (now (w .entry)) (madeShort (input (getD (now (w .entry)) 1 0) (blockingIn (now (w .entry))) (summarizationIn (now (w .entry))) (documents (sliceAt (now (w .entry)) 16 (now (longs .entry))) (sliceAt (now (w .entry)) 17 (now (w .entry))) (sliceAt (now (w .entry)) 18 (now (floats .entry)))) (sliceAt (now (w .entry)) 19 (now (longs .entry))) (sliceAt (now (w .entry)) 20 (now (longs .entry)))) (used (valueOf oddKey))) ⌝ }
+    ensures { λ r. ⌜ r ≡ agreed (now (w .entry)) (madeShort (input (getD (now (w .entry)) 1 0) (blockingIn (now (w .entry))) (summarizationIn (now (w .entry)))
+        (documents (sliceAt (now (w .entry)) 16 (now (longs .entry))) (sliceAt (now (w .entry)) 17 (now (w .entry))) (sliceAt (now (w .entry)) 18 (now (floats .entry)))) (sliceAt (now (w .entry)) 19
+        (now (longs .entry))) (sliceAt (now (w .entry)) 20 (now (longs .entry)))) (used (valueOf oddKey))) ⌝ }
 {
     builds_with(
         w,
@@ -97,11 +100,11 @@ fn builds_from(w: &[u32], longs: &[u64], floats: &[f32]) -> bool
         blocking_in(w),
         summarization_in(w),
         float32::value_of_key(0xc130_0000),
-        recorded::longs_of(w, 16, longs),
-        recorded::words_of(w, 17),
-        recorded::floats_of(w, 18, floats),
-        recorded::longs_of(w, 19, longs),
-        recorded::longs_of(w, 20, longs),
+        replay_words::longs_of(w, 16, longs),
+        replay_words::words_of(w, 17),
+        replay_words::floats_of(w, 18, floats),
+        replay_words::longs_of(w, 19, longs),
+        replay_words::longs_of(w, 20, longs),
     )
 }
 
@@ -111,7 +114,7 @@ pub(crate) fn builds_agree(w: &[u32]) -> bool
 {
     let mut longs = [0u64; 1024];
     let mut floats = [0.0f32; 1024];
-    recorded::fill_longs(w, &mut longs);
-    recorded::fill_floats(w, &mut floats);
+    replay_words::fill_longs(w, &mut longs);
+    replay_words::fill_floats(w, &mut floats);
     builds_from(w, &longs, &floats)
 }

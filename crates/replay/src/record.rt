@@ -25,7 +25,8 @@ struct Step {
 // The word that starts at a place.
 fn word_from(bytes: &[u8; 4096], at: usize) -> Step
     requires { ⌜ at < 4096 ⌝ }
-    ensures { λ r. ⌜ (0 < r .size) × (r .size ≤ 5) ⌝ }
+    ensures some { λ r. ⌜ 0 < r .size ⌝ }
+    ensures few { λ r. ⌜ r .size ≤ 5 ⌝ }
 {
     let first = byte_at(bytes, at);
     if first < 252 {

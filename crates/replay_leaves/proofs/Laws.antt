@@ -1,4 +1,4 @@
--- What a call's answer and its buffers come to, over plain variables. Assumes nothing.
+-- What a call's answer and its buffers come to, over plain variables.
 use Prim.Native.Nat.{ℕ}
 use mathlib.Core.Path.{_≡_, ap, _∙_}
 use mathlib.Core.Bool.{Bool, _&&_}
@@ -9,7 +9,7 @@ use lib.Ieee.{Float}
 use Rattle.refusal.specs.declared.Verdict.{Verdict}
 use Rattle.refusal.specs.Refusals.{verdictNumber}
 use Rattle.float32.specs.Key.{keyOf, valueOf}
-use Rattle.float32.specs.KeyLaws.{key-of-nan}
+use Rattle.float32.specs.Laws.KeyLaws.{key-of-nan}
 use Rattle.packing.specs.declared.PackingAnswer.{PackingAnswer}
 use Rattle.packing.specs.Packing.{packed}
 use Rattle.blocking.specs.declared.BlockingAnswer.{BlockingAnswer}
@@ -21,8 +21,8 @@ use Rattle.kept_list.specs.declared.Scored.{Scored}
 use Rattle.kept_list.specs.Entry.{scored}
 use Rattle.kept_list.specs.Lent.{lent}
 use Rattle.kept_list.specs.Push as push
-use Rattle.recorded.specs.Words.{long, sliceAt, spread, itself}
-use Rattle.expected.specs.Held.{held}
+use Rattle.replay_words.specs.Words.{long, sliceAt, spread, itself}
+use Rattle.replay_expected.specs.Held.{held}
 use Rattle.replay_leaves.specs.Case.{isPacked, isWritten, isSummary, quantizedAs, pushedAs, packsAgree, blocksAgree, quantizesAgree, pushesAgree}
 
 pub packs-by : (w : List ℕ) {a : PackingAnswer} {start end n : ℕ} {r : Bool} → start ≡ long w 1 → end ≡ long w 3 → a ≡ packed start end → n ≡ long w 5 → r ≡ isPacked a n → r ≡ packsAgree w

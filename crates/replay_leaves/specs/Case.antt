@@ -1,4 +1,5 @@
--- Recorded packing, blocking, quantizing and pushing: whether what the call means is what was recorded. src/lib.rt says which word is which.
+-- Recorded packing, blocking, quantizing and pushing: whether what the call means is what was recorded. src/lib.rt says which word is
+-- which.
 use Prim.Native.Nat.{ℕ}
 use mathlib.Core.Bool.{Bool, false, _&&_}
 use mathlib.Core.Logic.{_⊎_, inl, inr}
@@ -21,8 +22,8 @@ use Rattle.kept_list.specs.Entry.{scored}
 use Rattle.kept_list.specs.Lent.{lent}
 use Rattle.kept_list.specs.Push.{pushed}
 use Rattle.kept_list.specs.Push as push
-use Rattle.recorded.specs.Words.{long, sliceAt, spread, itself}
-use Rattle.expected.specs.Held.{held}
+use Rattle.replay_words.specs.Words.{long, sliceAt, spread, itself}
+use Rattle.replay_expected.specs.Held.{held}
 
 -- an answer in numbers is no refusal's, and its values pass a test
 abbrev pub gives : {A : Type 0} → (A → Bool) → ℕ ⊎ A → Bool

@@ -1,4 +1,4 @@
--- What the parts of a recorded search come to, over plain variables. Assumes nothing.
+-- What the parts of a recorded search come to, over plain variables.
 use Prim.Native.Nat.{ℕ}
 use mathlib.Core.Path.{_≡_, refl, ap, _∙_}
 use mathlib.Core.Bool.{Bool, _&&_}
@@ -7,27 +7,27 @@ use lib.ListN.{getD, replicate}
 use lib.Dec.{eqb}
 use lib.Ieee.{Float, nan}
 use Rattle.float32.specs.Key.{keyOf, valueOf}
-use Rattle.float32.specs.KeyLaws.{key-of-nan}
+use Rattle.float32.specs.Laws.KeyLaws.{key-of-nan}
 use Rattle.kept_list.specs.Lent.{lent}
-use Rattle.quantized_summary.specs.Layout.{arrays}
-use Rattle.probing.specs.Probed.{terms, lends}
+use Rattle.sparse_scores.specs.Layout.{arrays}
+use Rattle.search_probe.specs.Probed.{terms, lends}
 use Rattle.search.specs.Searched.{Question, question}
-use Rattle.search_numbers.specs.Found.{Shown, seen}
-use Rattle.recorded.specs.Words.{sliceAt, spread, itself, low}
-use Rattle.expected.specs.Held.{held}
+use Rattle.c_search.specs.Found.{Shown, seen}
+use Rattle.replay_words.specs.Words.{sliceAt, spread, itself, low}
+use Rattle.replay_expected.specs.Held.{held}
 use Rattle.replay_search.specs.Case.{questionFrom, questionIn, lentIn, countsHeld, buffersHeld, foundAs, foundFrom, searchesAgree}
 
 -- ---- what it left
 pub counts-by : (w : List ℕ) (n s e k : ℕ) {a b c : ℕ} → a ≡ getD w 5 0 → b ≡ getD w 6 0 → c ≡ getD w 7 0 → eqb n 0 && eqb s a && eqb e b && eqb k c ≡ countsHeld w n s e k
 counts-by w n s e k p q r = rw (p, q, r)
 
-pub holds-by : (w packed : List ℕ) (scores : List Float) (visits : List ℕ) (dots : List Float) (order : List ℕ) {es₁ es₂ es₃ es₄ es₅ : List ℕ} {a b c d e : Bool}
+pub holds-by : (w packed : List ℕ) (scores : List Float) (visits : List ℕ) (blockScores : List Float) (order : List ℕ) {es₁ es₂ es₃ es₄ es₅ : List ℕ} {a b c d e : Bool}
     → es₁ ≡ sliceAt w 23 w → a ≡ held packed es₁ 0 → es₂ ≡ sliceAt w 24 w → b ≡ held (map keyOf scores) es₂ 4294967295 → es₃ ≡ sliceAt w 25 w → c ≡ held visits es₃ 0
-    → es₄ ≡ sliceAt w 26 w → d ≡ held (map keyOf dots) es₄ 4294967295 → es₅ ≡ sliceAt w 27 w → e ≡ held order es₅ 6 → a && b && c && d && e ≡ buffersHeld w packed scores visits dots order
-holds-by w packed scores visits dots order p₁ a p₂ b p₃ c p₄ d p₅ e = rw (a, b, c, d, e, p₁, p₂, p₃, p₄, p₅, ← key-of-nan)
+    → es₄ ≡ sliceAt w 26 w → d ≡ held (map keyOf blockScores) es₄ 4294967295 → es₅ ≡ sliceAt w 27 w → e ≡ held order es₅ 6 → a && b && c && d && e ≡ buffersHeld w packed scores visits blockScores order
+holds-by w packed scores visits blockScores order p₁ a p₂ b p₃ c p₄ d p₅ e = rw (a, b, c, d, e, p₁, p₂, p₃, p₄, p₅, ← key-of-nan)
 
 pub found-by : (w : List ℕ) (s t : Shown) {a b : Bool} → s ≡ t → a ≡ countsHeld w (s .number) (s .lent .kept .size) (s .evaluated) (s .skipped)
-    → b ≡ buffersHeld w (s .lent .kept .packed) (s .lent .kept .scores) (s .lent .visits) (s .scores) (s .order) → a && b ≡ foundAs w t
+    → b ≡ buffersHeld w (s .lent .kept .packed) (s .lent .kept .scores) (s .lent .visits) (s .blockScores) (s .blockOrder) → a && b ≡ foundAs w t
 unfolding foundAs
 found-by w s t e p q = rw (p, q) (ap (foundAs w) e)
 

@@ -7,12 +7,12 @@ use lib.Dec.{eqb}
 use lib.Ieee.{Float, nan}
 use Rattle.float32.specs.Key.{keyOf, valueOf}
 use Rattle.kept_list.specs.Lent.{lent}
-use Rattle.quantized_summary.specs.Layout.{arrays}
-use Rattle.probing.specs.Probed.{Lends, terms, lends}
+use Rattle.sparse_scores.specs.Layout.{arrays}
+use Rattle.search_probe.specs.Probed.{Lends, terms, lends}
 use Rattle.search.specs.Searched.{Question, question}
-use Rattle.search_numbers.specs.Found.{Shown, seen}
-use Rattle.recorded.specs.Words.{sliceAt, spread, itself, low}
-use Rattle.expected.specs.Held.{held}
+use Rattle.c_search.specs.Found.{Shown, seen}
+use Rattle.replay_words.specs.Words.{sliceAt, spread, itself, low}
+use Rattle.replay_expected.specs.Held.{held}
 
 -- ---- what it was given
 -- the query, the documents' terms and the list, of the words as numbers, floats, numbers of 16 bits and bytes
@@ -34,12 +34,14 @@ countsHeld w number size evaluated skipped = eqb number 0 && eqb size (getD w 5 
 
 -- what was recorded in front, and past it what was there before; a score that was not recorded is a NaN
 abbrev pub buffersHeld : List ℕ → List ℕ → List Float → List ℕ → List Float → List ℕ → Bool
-buffersHeld w packed scores visits dots order =
-    held packed (sliceAt w 23 w) 0 && held (map keyOf scores) (sliceAt w 24 w) (keyOf nan) && held visits (sliceAt w 25 w) 0 && held (map keyOf dots) (sliceAt w 26 w) (keyOf nan) && held order (sliceAt w 27 w) 6
+buffersHeld w packed scores visits blockScores order =
+    held packed (sliceAt w 23 w) 0 && held (map keyOf scores) (sliceAt w 24 w) (keyOf nan) && held visits (sliceAt w 25 w) 0 && held (map keyOf blockScores) (sliceAt w 26 w) (keyOf nan)
+    && held order (sliceAt w 27 w) 6
 
 -- accepted, with both
 unfoldable pub foundAs : List ℕ → Shown → Bool
-foundAs w s = countsHeld w (s .number) (s .lent .kept .size) (s .evaluated) (s .skipped) && buffersHeld w (s .lent .kept .packed) (s .lent .kept .scores) (s .lent .visits) (s .scores) (s .order)
+foundAs w s = countsHeld w (s .number) (s .lent .kept .size) (s .evaluated) (s .skipped) && buffersHeld w (s .lent .kept .packed) (s .lent .kept .scores) (s .lent .visits) (s .blockScores)
+    (s .blockOrder)
 
 -- of a question and what is lent, with room enough for dots and order that holds other numbers
 unfoldable pub foundFrom : List ℕ → Question → Lends → Bool

@@ -1,22 +1,22 @@
 // Searching, as recorded. The words of a case: 1: by score; 2: k; 3: the factor; 4: how many are kept; 5: how many afterwards;
 // 6: evaluated; 7: skipped; from 8 on where the slices start: the twelve that are read, the kept packed numbers, scores and visits before,
 // and afterwards these three, the dots and the order.
-use expected::same_bytes;
-use expected::same_floats;
-use expected::same_longs;
-use recorded::bytes_of;
-use recorded::floats_of;
-use recorded::longs_of;
-use recorded::shorts_of;
-use recorded::word;
-use recorded::words_of;
+use replay_expected::same_bytes;
+use replay_expected::same_floats;
+use replay_expected::same_longs;
+use replay_words::bytes_of;
+use replay_words::floats_of;
+use replay_words::longs_of;
+use replay_words::shorts_of;
+use replay_words::word;
+use replay_words::words_of;
 ghost use mathlib.Core.Path.{_≡_};
 ghost use lib.ListN.{getD, replicate};
 ghost use Rattle.kept_list.specs.Lent.{lent};
-ghost use Rattle.quantized_summary.specs.Layout.{arrays};
-ghost use Rattle.probing.specs.Probed.{terms, lends};
+ghost use Rattle.sparse_scores.specs.Layout.{arrays};
+ghost use Rattle.search_probe.specs.Probed.{terms, lends};
 ghost use Rattle.search.specs.Searched.{question};
-ghost use Rattle.search_numbers.specs.Found.{seen};
+ghost use Rattle.c_search.specs.Found.{seen};
 ghost use Rattle.replay_search.specs.Case.{questionFrom, lentIn, countsHeld, buffersHeld, foundAs, foundFrom, searchesAgree};
 
 // Whether a search is accepted and counts as recorded.
@@ -35,33 +35,33 @@ fn holds(
     packed: &[u64],
     scores: &[f32],
     visits: &[u8],
-    dots: &[f32],
-    order: &[u64],
+    block_scores: &[f32],
+    block_order: &[u64],
 ) -> bool
-    ensures { λ r. ⌜ r ≡ buffersHeld (now (w .entry)) (now (packed .entry)) (now (scores .entry)) (now (visits .entry)) (now (dots .entry)) (now (order .entry)) ⌝ }
+    ensures { λ r. ⌜ r ≡ buffersHeld (now (w .entry)) (now (packed .entry)) (now (scores .entry)) (now (visits .entry)) (now («block_scores» .entry)) (now («block_order» .entry)) ⌝ }
 {
     same_longs(packed, words_of(w, 23), 0)
         & same_floats(scores, words_of(w, 24), 0xffff_ffff)
         & same_bytes(visits, words_of(w, 25), 0)
-        & same_floats(dots, words_of(w, 26), 0xffff_ffff)
-        & same_longs(order, words_of(w, 27), 6)
+        & same_floats(block_scores, words_of(w, 26), 0xffff_ffff)
+        & same_longs(block_order, words_of(w, 27), 6)
 }
 
 // The search itself, with the kept list and the visits as they were before, and other numbers in the buffers for dots and order.
 fn searches_with(
     w: &[u32],
     by_score: u64,
-    asked: &[u32],
-    weights: &[f32],
+    query_components: &[u32],
+    query_values: &[f32],
     k: u64,
     factor: f32,
     components: &[u32],
     values: &[f32],
     postings: &[u64],
-    blocks: &[u64],
-    present: &[u32],
-    offsets: &[u64],
-    ids: &[u16],
+    block_offsets: &[u64],
+    summary_components: &[u32],
+    component_offsets: &[u64],
+    summary_ids: &[u16],
     codes: &[u8],
     minimums: &[f32],
     steps: &[f32],
@@ -71,28 +71,30 @@ fn searches_with(
     scores: &mut [f32],
     visits: &mut [u8],
 ) -> bool
-    ensures { λ r. ⌜ r ≡ foundAs (now (w .entry)) (seen «by_score» (question k factor (terms (now (asked .entry)) (now (weights .entry)) (now (components .entry)) (now (values .entry))) (now (postings .entry)) (now (blocks .entry)) (arrays (now (present .entry)) (now (offsets .entry)) (now (ids .entry)) (now (codes .entry)) (now (minimums .entry)) (now (steps .entry))))
+    ensures { λ r. ⌜ r ≡ foundAs (now (w .entry)) (seen «by_score» (question k factor (terms (now («query_components» .entry)) (now («query_values» .entry)) (now (components .entry))
+        (now (values .entry))) (now (postings .entry)) (now («block_offsets» .entry)) (arrays (now («summary_components» .entry)) (now («component_offsets» .entry)) (now («summary_ids» .entry))
+        (now (codes .entry)) (now (minimums .entry)) (now (steps .entry))))
         (lends (lent kept (now (packed .entry)) (now (scores .entry))) (now (visits .entry))) (replicate 32 odd) (replicate 32 6)) ⌝ }
 {
     let mut length = kept;
-    let mut dots = [odd; 32];
-    let mut order = [6u64; 32];
+    let mut block_scores = [odd; 32];
+    let mut block_order = [6u64; 32];
     let mut position = 0;
     let mut evaluated = 0;
     let mut skipped = 0;
-    let number = search_numbers::find(
+    let number = c_search::find(
         by_score,
-        asked,
-        weights,
+        query_components,
+        query_values,
         k,
         factor,
         components,
         values,
         postings,
-        blocks,
-        present,
-        offsets,
-        ids,
+        block_offsets,
+        summary_components,
+        component_offsets,
+        summary_ids,
         codes,
         minimums,
         steps,
@@ -100,13 +102,14 @@ fn searches_with(
         packed,
         scores,
         visits,
-        &mut dots,
-        &mut order,
+        &mut block_scores,
+        &mut block_order,
         &mut position,
         &mut evaluated,
         &mut skipped,
     );
-    counts(w, number, length, evaluated, skipped) & holds(w, packed, scores, visits, &dots, &order)
+    counts(w, number, length, evaluated, skipped)
+        & holds(w, packed, scores, visits, &block_scores, &block_order)
 }
 
 // The search of the slices that stand in the words.
@@ -120,7 +123,8 @@ fn searches_from(
     scores: &mut [f32],
     visits: &mut [u8],
 ) -> bool
-    ensures { λ r. ⌜ r ≡ foundFrom (now (w .entry)) (questionFrom (now (w .entry)) (now (longs .entry)) (now (floats .entry)) (now (shorts .entry)) (now (bytes .entry))) (lends (lent (getD (now (w .entry)) 4 0) (now (packed .entry)) (now (scores .entry))) (now (visits .entry))) ⌝ }
+    ensures { λ r. ⌜ r ≡ foundFrom (now (w .entry)) (questionFrom (now (w .entry)) (now (longs .entry)) (now (floats .entry)) (now (shorts .entry)) (now (bytes .entry)))
+        (lends (lent (getD (now (w .entry)) 4 0) (now (packed .entry)) (now (scores .entry))) (now (visits .entry))) ⌝ }
 {
     searches_with(
         w,
@@ -128,7 +132,7 @@ fn searches_from(
         words_of(w, 8),
         floats_of(w, 9, floats),
         word(w, 2) as u64,
-        recorded::float(w, 3),
+        replay_words::float(w, 3),
         words_of(w, 10),
         floats_of(w, 11, floats),
         longs_of(w, 12, longs),
@@ -154,9 +158,9 @@ fn searches_on(w: &[u32], longs: &[u64], floats: &[f32], shorts: &[u16], bytes: 
     let mut packed = [0u64; 8];
     let mut scores = [0.0f32; 8];
     let mut visits = [0u8; 256];
-    recorded::fill_longs(words_of(w, 20), &mut packed);
-    recorded::fill_floats(words_of(w, 21), &mut scores);
-    recorded::fill_bytes(words_of(w, 22), &mut visits);
+    replay_words::fill_longs(words_of(w, 20), &mut packed);
+    replay_words::fill_floats(words_of(w, 21), &mut scores);
+    replay_words::fill_bytes(words_of(w, 22), &mut visits);
     searches_from(
         w,
         longs,
@@ -177,9 +181,9 @@ pub fn searches_agree(w: &[u32]) -> bool
     let mut floats = [0.0f32; 1024];
     let mut shorts = [0u16; 1024];
     let mut bytes = [0u8; 1024];
-    recorded::fill_longs(w, &mut longs);
-    recorded::fill_floats(w, &mut floats);
-    recorded::fill_shorts(w, &mut shorts);
-    recorded::fill_bytes(w, &mut bytes);
+    replay_words::fill_longs(w, &mut longs);
+    replay_words::fill_floats(w, &mut floats);
+    replay_words::fill_shorts(w, &mut shorts);
+    replay_words::fill_bytes(w, &mut bytes);
     searches_on(w, &longs, &floats, &shorts, &bytes)
 }

@@ -1,13 +1,15 @@
--- What is put at the front of a buffer, and turns by a list of blocks. Assumes nothing.
-use Prim.Native.Nat.{ℕ, zero, suc, _+_, _≤_, _<_}
+-- What is put at the front of a buffer, and turns by a list of blocks.
+use Prim.Native.Nat.{ℕ, suc, _+_, _≤_, _<_}
 use native.Mathlib.Omega.{arith}
 use mathlib.Core.Path.{_≡_, refl, sym, ap, _∙_}
 use mathlib.Core.List.{List, [], _∷_, _++_, map}
-use lib.ListN.{length, getD, take, drop, length-append, length-take, length-drop}
+use lib.ListN.{length, getD, take, drop}
 use lib.Seq.{take-all, take-at, length-take-le}
-use Rattle.lists.specs.Lists.{from}
-use Rattle.quantized_summary.specs.Scores.{putIn}
-use Rattle.probing.specs.Probed.{listed}
+use Rattle.sequences.specs.Lists.{from}
+use Rattle.sequences.specs.Laws.Lists.{any-default}
+use Rattle.sparse_scores.specs.Scores.{putIn}
+use Rattle.sparse_scores.specs.Laws.WalkLaws.{put-length}
+use Rattle.search_probe.specs.Probed.{listed}
 
 -- ---- what is put at the front of a buffer is its front
 pub put-all : {A : Type 0} (xs buffer : List A) → length xs ≤ length buffer → putIn xs buffer ≡ xs ++ drop (length xs) buffer
@@ -18,10 +20,6 @@ front xs buffer ys n e h p = ap (take n) (p ∙ put-all xs buffer (rw e h)) ∙ 
 
 pub put-front : {A : Type 0} (xs buffer ys : List A) (n : ℕ) → length xs ≡ n → n ≤ length buffer → ys ≡ xs → ys ++ drop n buffer ≡ putIn xs buffer
 put-front xs buffer ys n e h p = rw (p, ← e) (sym (put-all xs buffer (rw e h)))
-
-put-length : {A : Type 0} (xs buffer : List A) → length (putIn xs buffer) ≡ length buffer
-put-length xs buffer =
-    omega (arith, length-append (take (length buffer) xs) (drop (length xs) buffer), length-take (length buffer) xs, length-drop (length xs) buffer)
 
 pub put-room : {A : Type 0} (xs buffer ys : List A) (n : ℕ) → n ≤ length buffer → ys ≡ putIn xs buffer → n ≤ length ys
 put-room xs buffer ys n h p = let z : length ys ≡ length buffer = ap length p ∙ put-length xs buffer in omega arith
@@ -46,12 +44,7 @@ listed-by g (b ∷ bs) a h =
     let y = listed-by g bs (suc a) (λ j l. let w : suc a + j ≡ a + suc j = omega arith in ap g w ∙ h (suc j) (omega arith)) in
     cc
 
-there : (l : List ℕ) (j c d : ℕ) → j < length l → getD l j c ≡ getD l j d
-there [] j c d h = absurd (omega arith)
-there (x ∷ l) zero c d h = refl
-there (x ∷ l) (suc j) c d h = there l j c d (omega arith)
-
 pub all-listed : (bs : List ℕ) (n : ℕ) → length bs ≡ n → listed bs n ≡ bs
 all-listed bs n e =
     ap (λ m. map (λ i. getD bs i i) (from 0 m)) (sym e)
-    ∙ listed-by (λ i. getD bs i i) bs 0 (λ j l. let w : 0 + j ≡ j = omega arith in rw w (there bs j j 0 l))
+    ∙ listed-by (λ i. getD bs i i) bs 0 (λ j l. let w : 0 + j ≡ j = omega arith in rw w (any-default bs j j 0 l))

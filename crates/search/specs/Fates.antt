@@ -6,10 +6,10 @@ use mathlib.Core.Bool.{true}
 use mathlib.Core.List.{List, [], _∷_, _++_, map}
 use mathlib.Core.Logic.{_⊎_}
 use lib.ListN.{getD}
-use Rattle.lists.specs.Lists.{among}
+use Rattle.sequences.specs.Lists.{among}
 use Rattle.refusal.specs.declared.Refusal.{Refusal}
 use Rattle.kept_list.specs.declared.Scored.{Scored}
-use Rattle.probing.specs.Probing.{Place, Given, State, Outcome, passed, stopped, found, startAt, Reached, stopsAt, positions}
+use Rattle.search_probe.specs.Probing.{Place, Given, State, Outcome, passed, stopped, found, startAt, Reached, stopsAt, positions}
 use Rattle.search.specs.Trace.{Event, at, Turn, skippedBlock, probedBlock, startsOf, positionOf, blockOf, eventsOf}
 
 -- a posting of the list: a position in a block, the blocks being in probing order

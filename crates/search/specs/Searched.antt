@@ -5,7 +5,7 @@ use mathlib.Core.List.{List, [], _∷_}
 use lib.ListN.{length}
 use lib.Dec.{eqb, leb, ltb}
 use lib.Ieee.{Float}
-use Rattle.lists.specs.Lists.{from}
+use Rattle.sequences.specs.Lists.{from}
 use Rattle.refusal.specs.declared.Refusal.the-variants.{NothingToKeep, WrongQuery, WrongDocuments, MalformedList, WrongKeptList, BufferTooShort}
 use Rattle.refusal.specs.declared.Verdict.{Verdict}
 use Rattle.refusal.specs.declared.Verdict.the-variants as verdict
@@ -14,12 +14,12 @@ use Rattle.documents.specs.Documents.{paired}
 use Rattle.documents.specs.Checks.{slicesHold}
 use Rattle.kept_list.specs.Lent.{places}
 use Rattle.kept_list.specs.Push.{wellKept}
-use Rattle.quantized_summary.specs.Layout.{Layout}
-use Rattle.quantized_summary.specs.Scores.{scoresOf, putIn}
-use Rattle.quantized_summary.specs.WellFormed.{wellFormed}
-use Rattle.probing.specs.declared.Answer.the-variants.{Refused}
-use Rattle.probing.specs.Probing.{Given, Reached, sweep}
-use Rattle.probing.specs.Probed.{Terms, Lends, Left, left, given, laid, opened}
+use Rattle.sparse_scores.specs.Layout.{Layout}
+use Rattle.sparse_scores.specs.Scores.{scoresOf, putIn}
+use Rattle.sparse_scores.specs.WellFormed.{wellFormed}
+use Rattle.search_probe.specs.declared.Answer.the-variants.{Refused}
+use Rattle.search_probe.specs.Probing.{Given, Reached, sweep}
+use Rattle.search_probe.specs.Probed.{Terms, Lends, Left, left, given, laid, opened}
 use Rattle.search.specs.Order.{byScore}
 
 -- what is asked, over which terms, and the list that is searched: its postings, its block offsets and its summaries
@@ -28,11 +28,11 @@ pub record Question : Type 0 where
   pub factor : Float
   pub terms : Terms
   pub postings : List ℕ
-  pub offsets : List ℕ
+  pub blockOffsets : List ℕ
   pub layout : Layout
 
 abbrev pub question : ℕ → Float → Terms → List ℕ → List ℕ → Layout → Question
-question k factor t ps os l = record { k = k; factor = factor; terms = t; postings = ps; offsets = os; layout = l }
+question k factor t ps os l = record { k = k; factor = factor; terms = t; postings = ps; blockOffsets = os; layout = l }
 
 -- a block for each stored minimum
 abbrev pub blockCount : Question → ℕ
@@ -44,7 +44,7 @@ scoresFor q = scoresOf (q .layout) (paired (q .terms .queryComponents) (q .terms
 
 -- the blocks have their turns in an order, with these scores
 abbrev pub givenFor : Question → Given
-givenFor q = given (q .k) (q .factor) (q .terms) (q .postings) (q .offsets) (scoresFor q)
+givenFor q = given (q .k) (q .factor) (q .terms) (q .postings) (q .blockOffsets) (scoresFor q)
 
 abbrev pub swept : Question → List ℕ → Lends → Reached
 swept q blocks l = sweep (givenFor q) blocks (opened (q .terms) l)
@@ -59,7 +59,7 @@ tests q l blocks =
     (eqb (q .k) 0 gives NothingToKeep)
     ∷ (not (slicesHold (q .terms .queryComponents) (q .terms .queryValues)) gives WrongQuery)
     ∷ (not (eqb (length (q .terms .components)) (length (q .terms .values))) gives WrongDocuments)
-    ∷ (not (wellFormed (length (q .postings)) (q .offsets) (q .layout)) gives MalformedList)
+    ∷ (not (wellFormed (length (q .postings)) (q .blockOffsets) (q .layout)) gives MalformedList)
     ∷ (not (wellKept (q .k) (l .kept)) gives WrongKeptList)
     ∷ (not (room q l blocks) gives BufferTooShort)
     ∷ []
@@ -67,10 +67,10 @@ tests q l blocks =
 -- ---- blocks in number order: what was found, and the scores
 pub record Searched : Type 0 where
   pub found : Left
-  pub scores : List Float
+  pub blockScores : List Float
 
 abbrev pub leaves : Left → List Float → Searched
-leaves f xs = record { found = f; scores = xs }
+leaves f xs = record { found = f; blockScores = xs }
 
 abbrev pub ifAccepted : Verdict → Searched → Lends → List Float → Searched
 ifAccepted verdict.Accepted done l xs = done
@@ -86,11 +86,11 @@ searched q l xs = ifAccepted (firstOf (tests q l (scorePlaces q xs))) (leaves (l
 -- ---- greater score first: besides, the probing order
 pub record SearchedInOrder : Type 0 where
   pub found : Left
-  pub scores : List Float
-  pub order : List ℕ
+  pub blockScores : List Float
+  pub blockOrder : List ℕ
 
 abbrev pub leavesInOrder : Left → List Float → List ℕ → SearchedInOrder
-leavesInOrder f xs bs = record { found = f; scores = xs; order = bs }
+leavesInOrder f xs bs = record { found = f; blockScores = xs; blockOrder = bs }
 
 abbrev pub ifAcceptedInOrder : Verdict → SearchedInOrder → Lends → List Float → List ℕ → SearchedInOrder
 ifAcceptedInOrder verdict.Accepted done l xs bs = done

@@ -3,11 +3,11 @@ use Prim.Native.Nat.{ℕ, _+_}
 use mathlib.Core.Bool.{Bool, true, not, _&&_, cond}
 use mathlib.Core.List.{List, [], _∷_, _++_}
 use lib.ListN.{length, set}
-use Rattle.lists.specs.Lists.{among}
+use Rattle.sequences.specs.Lists.{among}
 use Rattle.kept_list.specs.declared.Scored.{Scored}
 use Rattle.kept_list.specs.Keep.{keepAll}
 use Rattle.kept_list.specs.Entry.{better}
-use Rattle.probing.specs.Probing.{Place, Given, State, Outcome, passed, stopped, found, outcome, startAt, Reached, goesOn, stopsAt, skips, positions, turn}
+use Rattle.search_probe.specs.Probing.{Place, Given, State, Outcome, passed, stopped, found, outcome, startAt, Reached, goesOn, stopsAt, skips, positions, turn}
 
 pub data Event : Type 0 where
   at : Place → Outcome → Event

@@ -2,7 +2,7 @@
 mod order;
 
 ghost use mathlib.Core.Path.{_≡_};
-ghost use mathlib.Core.Bool.{Bool, true, not, _&&_};
+ghost use mathlib.Core.Bool.{true, not, _&&_};
 ghost use mathlib.Core.List.{[], _∷_};
 ghost use Prim.Native.Nat.{_≤_};
 ghost use lib.ListN.{length as len};
@@ -13,16 +13,16 @@ ghost use Rattle.refusal.specs.declared.Refusal.the-variants.{NothingToKeep, Wr
 ghost use Rattle.refusal.specs.First.{_gives_, firstOf};
 ghost use Rattle.documents.specs.Documents.{paired};
 ghost use Rattle.kept_list.specs.Lent.{lent, places};
-ghost use Rattle.quantized_summary.specs.Layout.{arrays};
-ghost use Rattle.quantized_summary.specs.Scores.{scoresOf, putIn};
-ghost use Rattle.probing.specs.Probed.{terms, lends, left};
+ghost use Rattle.sparse_scores.specs.Layout.{arrays};
+ghost use Rattle.sparse_scores.specs.Scores.{scoresOf, putIn};
+ghost use Rattle.search_probe.specs.Probed.{terms, lends, left};
 ghost use Rattle.search.specs.Order.{byScore};
 ghost use Rattle.search.specs.Searched.{question, tests, leaves, leavesInOrder, searched, searchedInOrder};
 ghost use Rattle.search.specs.Numbers.{numbersLeft};
 use order::order_by_score;
-use probing::Answer;
 use refusal::Refusal;
 use refusal::Verdict;
+use search_probe::Answer;
 
 // The first fault in the order of the refusals: 11, 10, 6, 9, 12, 4.
 fn judge(nothing: bool, query: bool, even: bool, list: bool, kept: bool, room: bool) -> Verdict
@@ -60,16 +60,16 @@ fn has_room(k: u64, packed: &[u64], scores: &[f32], count: usize, bytes: usize, 
 
 // The verdict on all that a search is given. Each test is one or a few passes without an early exit.
 fn admit(
-    asked: &[u32],
-    weights: &[f32],
+    query_components: &[u32],
+    query_values: &[f32],
     k: u64,
     components: &[u32],
     values: &[f32],
     postings: &[u64],
-    blocks: &[u64],
-    present: &[u32],
-    offsets: &[u64],
-    ids: &[u16],
+    block_offsets: &[u64],
+    summary_components: &[u32],
+    component_offsets: &[u64],
+    summary_ids: &[u16],
     codes: &[u8],
     minimums: &[f32],
     steps: &[f32],
@@ -79,21 +79,23 @@ fn admit(
     visits: &[u8],
     room: bool,
 ) -> Verdict
-    ensures { λ r. ⌜ r ≡ firstOf (tests (question k nan (terms (now (asked .entry)) (now (weights .entry)) (now (components .entry)) (now (values .entry))) (now (postings .entry)) (now (blocks .entry)) (arrays (now (present .entry)) (now (offsets .entry)) (now (ids .entry)) (now (codes .entry)) (now (minimums .entry)) (now (steps .entry))))
-        (lends (lent length (now (packed .entry)) (now (scores .entry))) (now (visits .entry))) room) ⌝ }
+    ensures { λ r. ⌜ r ≡ firstOf (tests (question k nan (terms (now («query_components» .entry)) (now («query_values» .entry)) (now (components .entry))
+        (now (values .entry))) (now (postings .entry)) (now («block_offsets» .entry)) (arrays (now («summary_components» .entry)) (now («component_offsets» .entry))
+        (now («summary_ids» .entry)) (now (codes .entry)) (now (minimums .entry)) (now (steps .entry)))) (lends (lent length (now (packed .entry)) (now (scores .entry)))
+        (now (visits .entry))) room) ⌝ }
 {
-    let query = document_checks::slices_hold(asked, weights);
-    let list = list_checks::is_well_formed(
+    let query = document_checks::slices_hold(query_components, query_values);
+    let list = search_checks::is_well_formed(
         postings.len() as u64,
-        blocks,
-        present,
-        offsets,
-        ids,
+        block_offsets,
+        summary_components,
+        component_offsets,
+        summary_ids,
         codes,
         minimums,
         steps,
     );
-    let kept = pushing::is_well_kept(k, length, packed, scores);
+    let kept = kept_push::is_well_kept(k, length, packed, scores);
     let roomy = has_room(k, packed, scores, components.len(), visits.len(), room);
     judge(
         k == 0,
@@ -111,20 +113,20 @@ fn admit(
 // and `scores`, `length` entries long; it goes on from the entries that it holds. `visits` has a byte for each start.
 //
 // Refused, with nothing changed, in this order: 11, 10, 6, 9, 12, 4. Stopped by 13 or 14 at a posting, which is named by its position;
-// the kept list and the marks stand then as after the postings before it. `dots` is left with the score of each block at its front.
+// the kept list and the marks stand then as after the postings before it. `block_scores` is left with the score of each block at its front.
 // Unless it was refused, no score of a block or of a kept entry is a NaN.
 pub fn search(
-    asked: &[u32],
-    weights: &[f32],
+    query_components: &[u32],
+    query_values: &[f32],
     k: u64,
     factor: f32,
     components: &[u32],
     values: &[f32],
     postings: &[u64],
-    blocks: &[u64],
-    present: &[u32],
-    offsets: &[u64],
-    ids: &[u16],
+    block_offsets: &[u64],
+    summary_components: &[u32],
+    component_offsets: &[u64],
+    summary_ids: &[u16],
     codes: &[u8],
     minimums: &[f32],
     steps: &[f32],
@@ -132,25 +134,27 @@ pub fn search(
     packed: &mut [u64],
     scores: &mut [f32],
     visits: &mut [u8],
-    dots: &mut [f32],
+    block_scores: &mut [f32],
 ) -> Answer
-    ensures leaves { λ r. ⌜ leaves (left r (lends (lent (now (length .exit)) (now (packed .exit)) (now (scores .exit))) (now (visits .exit)))) (now (dots .exit))
-        ≡ searched (question k factor (terms (now (asked .entry)) (now (weights .entry)) (now (components .entry)) (now (values .entry))) (now (postings .entry)) (now (blocks .entry)) (arrays (now (present .entry)) (now (offsets .entry)) (now (ids .entry)) (now (codes .entry)) (now (minimums .entry)) (now (steps .entry))))
-        (lends (lent (now (length .entry)) (now (packed .entry)) (now (scores .entry))) (now (visits .entry))) (now (dots .entry)) ⌝ }
-    ensures numbers { λ r. ⌜ numbersLeft r (len (now (minimums .entry))) (now (dots .exit)) (lent (now (length .exit)) (now (packed .exit)) (now (scores .exit))) ≡ true ⌝ }
+    ensures leaves { λ r. ⌜ leaves (left r (lends (lent (now (length .exit)) (now (packed .exit)) (now (scores .exit))) (now (visits .exit))))
+        (now («block_scores» .exit)) ≡ searched (question k factor (terms (now («query_components» .entry)) (now («query_values» .entry)) (now (components .entry))
+        (now (values .entry))) (now (postings .entry)) (now («block_offsets» .entry)) (arrays (now («summary_components» .entry)) (now («component_offsets» .entry))
+        (now («summary_ids» .entry)) (now (codes .entry)) (now (minimums .entry)) (now (steps .entry)))) (lends (lent (now (length .entry)) (now (packed .entry))
+        (now (scores .entry))) (now (visits .entry))) (now («block_scores» .entry)) ⌝ }
+    ensures numbers { λ r. ⌜ numbersLeft r (len (now (minimums .entry))) (now («block_scores» .exit)) (lent (now (length .exit)) (now (packed .exit)) (now (scores .exit))) ≡ true ⌝ }
 {
     let n = minimums.len();
     let verdict = admit(
-        asked,
-        weights,
+        query_components,
+        query_values,
         k,
         components,
         values,
         postings,
-        blocks,
-        present,
-        offsets,
-        ids,
+        block_offsets,
+        summary_components,
+        component_offsets,
+        summary_ids,
         codes,
         minimums,
         steps,
@@ -158,32 +162,32 @@ pub fn search(
         packed,
         scores,
         visits,
-        n <= dots.len(),
+        n <= block_scores.len(),
     );
     if let Verdict::Refused(reason) = verdict {
         return Answer::Refused(reason);
     }
-    quantized_summary::distances(
-        asked,
-        weights,
-        present,
-        offsets,
-        ids,
+    sparse_scores::distances(
+        query_components,
+        query_values,
+        summary_components,
+        component_offsets,
+        summary_ids,
         codes,
         minimums,
         steps,
-        dots,
+        block_scores,
     );
-    probing::probe(
-        asked,
-        weights,
+    search_probe::probe(
+        query_components,
+        query_values,
         k,
         factor,
         components,
         values,
         postings,
-        blocks,
-        &dots[..n],
+        block_offsets,
+        &block_scores[..n],
         &postings[..0],
         n as u64,
         length,
@@ -195,53 +199,55 @@ pub fn search(
 
 // The score of each block, and the blocks by their scores.
 fn score_and_order(
-    asked: &[u32],
-    weights: &[f32],
-    present: &[u32],
-    offsets: &[u64],
-    ids: &[u16],
+    query_components: &[u32],
+    query_values: &[f32],
+    summary_components: &[u32],
+    component_offsets: &[u64],
+    summary_ids: &[u16],
     codes: &[u8],
     minimums: &[f32],
     steps: &[f32],
-    dots: &mut [f32],
-    order: &mut [u64],
+    block_scores: &mut [f32],
+    block_order: &mut [u64],
 )
     requires { ⌜ len (now minimums) ≤ blockLimit ⌝ }
     requires { ⌜ len (now minimums) ≡ len (now steps) ⌝ }
-    requires { ⌜ len (now minimums) ≤ len (now dots) ⌝ }
-    requires { ⌜ len (now minimums) ≤ len (now order) ⌝ }
-    ensures { λ _. ⌜ (now (dots .exit) ≡ putIn (scoresOf (arrays (now (present .entry)) (now (offsets .entry)) (now (ids .entry)) (now (codes .entry)) (now (minimums .entry)) (now (steps .entry))) (paired (now (asked .entry)) (now (weights .entry)))) (now (dots .entry)))
-        × (now (order .exit) ≡ putIn (byScore (scoresOf (arrays (now (present .entry)) (now (offsets .entry)) (now (ids .entry)) (now (codes .entry)) (now (minimums .entry)) (now (steps .entry))) (paired (now (asked .entry)) (now (weights .entry))))) (now (order .entry))) ⌝ }
+    requires { ⌜ len (now minimums) ≤ len (now «block_scores») ⌝ }
+    requires { ⌜ len (now minimums) ≤ len (now «block_order») ⌝ }
+    ensures block_scores { λ _. ⌜ now («block_scores» .exit) ≡ putIn (scoresOf (arrays (now («summary_components» .entry)) (now («component_offsets» .entry)) (now («summary_ids» .entry))
+        (now (codes .entry)) (now (minimums .entry)) (now (steps .entry))) (paired (now («query_components» .entry)) (now («query_values» .entry)))) (now («block_scores» .entry)) ⌝ }
+    ensures block_order { λ _. ⌜ now («block_order» .exit) ≡ putIn (byScore (scoresOf (arrays (now («summary_components» .entry)) (now («component_offsets» .entry)) (now («summary_ids» .entry))
+        (now (codes .entry)) (now (minimums .entry)) (now (steps .entry))) (paired (now («query_components» .entry)) (now («query_values» .entry))))) (now («block_order» .entry)) ⌝ }
 {
     let n = minimums.len();
-    quantized_summary::distances(
-        asked,
-        weights,
-        present,
-        offsets,
-        ids,
+    sparse_scores::distances(
+        query_components,
+        query_values,
+        summary_components,
+        component_offsets,
+        summary_ids,
         codes,
         minimums,
         steps,
-        dots,
+        block_scores,
     );
-    order_by_score(&dots[..n], &mut order[..n]);
+    order_by_score(&block_scores[..n], &mut block_order[..n]);
 }
 
-// The same with the blocks of greater score first, and of equal ones the smaller number. `order` is left with the block numbers in the
+// The same with the blocks of greater score first, and of equal ones the smaller number. `block_order` is left with the block numbers in the
 // order of their turns at its front.
 pub fn sort_and_search(
-    asked: &[u32],
-    weights: &[f32],
+    query_components: &[u32],
+    query_values: &[f32],
     k: u64,
     factor: f32,
     components: &[u32],
     values: &[f32],
     postings: &[u64],
-    blocks: &[u64],
-    present: &[u32],
-    offsets: &[u64],
-    ids: &[u16],
+    block_offsets: &[u64],
+    summary_components: &[u32],
+    component_offsets: &[u64],
+    summary_ids: &[u16],
     codes: &[u8],
     minimums: &[f32],
     steps: &[f32],
@@ -249,26 +255,29 @@ pub fn sort_and_search(
     packed: &mut [u64],
     scores: &mut [f32],
     visits: &mut [u8],
-    dots: &mut [f32],
-    order: &mut [u64],
+    block_scores: &mut [f32],
+    block_order: &mut [u64],
 ) -> Answer
-    ensures leaves { λ r. ⌜ leavesInOrder (left r (lends (lent (now (length .exit)) (now (packed .exit)) (now (scores .exit))) (now (visits .exit)))) (now (dots .exit)) (now (order .exit))
-        ≡ searchedInOrder (question k factor (terms (now (asked .entry)) (now (weights .entry)) (now (components .entry)) (now (values .entry))) (now (postings .entry)) (now (blocks .entry)) (arrays (now (present .entry)) (now (offsets .entry)) (now (ids .entry)) (now (codes .entry)) (now (minimums .entry)) (now (steps .entry))))
-        (lends (lent (now (length .entry)) (now (packed .entry)) (now (scores .entry))) (now (visits .entry))) (now (dots .entry)) (now (order .entry)) ⌝ }
-    ensures numbers { λ r. ⌜ numbersLeft r (len (now (minimums .entry))) (now (dots .exit)) (lent (now (length .exit)) (now (packed .exit)) (now (scores .exit))) ≡ true ⌝ }
+    ensures leaves { λ r. ⌜ leavesInOrder (left r (lends (lent (now (length .exit)) (now (packed .exit)) (now (scores .exit))) (now (visits .exit))))
+        (now («block_scores» .exit)) (now («block_order» .exit))
+        ≡ searchedInOrder (question k factor (terms (now («query_components» .entry)) (now («query_values» .entry)) (now (components .entry)) (now (values .entry)))
+        (now (postings .entry)) (now («block_offsets» .entry)) (arrays (now («summary_components» .entry)) (now («component_offsets» .entry)) (now («summary_ids» .entry))
+        (now (codes .entry)) (now (minimums .entry)) (now (steps .entry)))) (lends (lent (now (length .entry)) (now (packed .entry)) (now (scores .entry)))
+        (now (visits .entry))) (now («block_scores» .entry)) (now («block_order» .entry)) ⌝ }
+    ensures numbers { λ r. ⌜ numbersLeft r (len (now (minimums .entry))) (now («block_scores» .exit)) (lent (now (length .exit)) (now (packed .exit)) (now (scores .exit))) ≡ true ⌝ }
 {
     let n = minimums.len();
     let verdict = admit(
-        asked,
-        weights,
+        query_components,
+        query_values,
         k,
         components,
         values,
         postings,
-        blocks,
-        present,
-        offsets,
-        ids,
+        block_offsets,
+        summary_components,
+        component_offsets,
+        summary_ids,
         codes,
         minimums,
         steps,
@@ -276,34 +285,34 @@ pub fn sort_and_search(
         packed,
         scores,
         visits,
-        (n <= dots.len()) & (n <= order.len()),
+        (n <= block_scores.len()) & (n <= block_order.len()),
     );
     if let Verdict::Refused(reason) = verdict {
         return Answer::Refused(reason);
     }
     score_and_order(
-        asked,
-        weights,
-        present,
-        offsets,
-        ids,
+        query_components,
+        query_values,
+        summary_components,
+        component_offsets,
+        summary_ids,
         codes,
         minimums,
         steps,
-        dots,
-        order,
+        block_scores,
+        block_order,
     );
-    probing::probe(
-        asked,
-        weights,
+    search_probe::probe(
+        query_components,
+        query_values,
         k,
         factor,
         components,
         values,
         postings,
-        blocks,
-        &dots[..n],
-        &order[..n],
+        block_offsets,
+        &block_scores[..n],
+        &block_order[..n],
         n as u64,
         length,
         packed,

@@ -1,17 +1,18 @@
--- Two searches one after the other, the second with what the first left: together they are one. Assumes nothing.
+-- Two searches one after the other, the second with what the first left: together they are one.
 use Prim.Native.Nat.{ℕ, _+_}
 use native.Mathlib.Omega.{arith}
 use mathlib.Core.Path.{_≡_, sym, ap, _∙_}
 use mathlib.Core.Bool.{true, cond}
 use mathlib.Core.List.{List, _++_, append-assoc}
 use lib.ListN.{length, getD, take}
-use Rattle.lists.specs.Lists.{among}
-use Rattle.kept_list.specs.Entry.{better, better-order}
+use Rattle.sequences.specs.Lists.{among}
+use Rattle.kept_list.specs.Entry.{better}
+use Rattle.kept_list.specs.Laws.Entry.{better-order}
 use Rattle.kept_list.specs.Keep.{kBest}
-use Rattle.kept_list.specs.Best.{kBest-left}
+use Rattle.kept_list.specs.Laws.Best.{kBest-left}
 use Rattle.kept_list.specs.Lent.{entries}
-use Rattle.probing.specs.Probing.{left}
-use Rattle.probing.specs.Probed.{Lends, bytesOf}
+use Rattle.search_probe.specs.Probing.{left}
+use Rattle.search_probe.specs.Probed.{Lends, bytesOf}
 use Rattle.search.specs.Searched.{Question, givenFor, swept}
 use Rattle.search.specs.Trace.{Event, entriesOf, startsOf, eventsOf}
 use Rattle.search_promises.specs.Ran.{Ran}

@@ -1,4 +1,4 @@
--- What demand 2 comes to for the answer of a search: its counts, and what it did to the list that it began with. Assumes nothing.
+-- What demand 2 comes to for the answer of a search: its counts, and what it did to the list that it began with.
 use Prim.Native.Nat.{ℕ, _+_, _≤_, _<_}
 use native.Mathlib.Omega.{arith}
 use mathlib.Core.Path.{_≡_, sym, ap, _∙_, subst}
@@ -6,20 +6,21 @@ use mathlib.Core.Bool.{true, false}
 use mathlib.Core.List.{List, _++_, List·Memᴰ, Memᴰ·append-left}
 use lib.ListN.{length, getD}
 use lib.Ieee.{nan}
-use Rattle.lists.specs.Lists.{EachOf, among}
+use Rattle.sequences.specs.Lists.{EachOf, among}
 use Rattle.kept_list.specs.declared.Scored.{Scored}
-use Rattle.kept_list.specs.Entry.{better, better-order}
-use Rattle.kept_list.specs.LeftOut.{left-out}
+use Rattle.kept_list.specs.Entry.{better}
+use Rattle.kept_list.specs.Laws.Entry.{better-order}
+use Rattle.kept_list.specs.Laws.LeftOut.{left-out}
 use Rattle.kept_list.specs.Lent.{entries}
-use Rattle.probing.specs.Probing.{startAt}
-use Rattle.probing.specs.Probed.{Lends, bytesOf, opened}
+use Rattle.search_probe.specs.Probing.{startAt}
+use Rattle.search_probe.specs.Probed.{Lends, bytesOf, opened}
 use Rattle.search.specs.Searched.{Question, givenFor, swept}
 use Rattle.search.specs.Trace.{startsOf, entriesOf, eventsOf}
 use Rattle.search.specs.Fates.{Posting}
 use Rattle.search_promises.specs.Counts.{visitedIn}
 use Rattle.search_promises.specs.Ran.{Ran}
 use Rattle.search_promises.specs.Ended.{Ended}
-use Rattle.search_promises.specs.Evaluated as evaluated
+use Rattle.search_promises.specs.Laws.Evaluated as evaluated
 
 -- whatever was kept and is not kept any more: k are kept now, and it is better than none of them
 pub never-worse : (q : Question) (l : Lends) (blocks : List ℕ) (x : Lends) → Ran q l blocks x → (d : Scored) → List·Memᴰ d (entries (l .kept)) → (List·Memᴰ d (entries (x .kept)) → ⊥)

@@ -2,8 +2,6 @@ pub mod Ran
 pub mod Ended
 pub mod Seen
 pub mod Counts
-pub mod Evaluated
 pub mod Demand
 pub mod Chain
-pub mod Worst
-pub mod Corners
+pub mod Laws

@@ -1,14 +1,14 @@
 // Document 01's worked pages, run through the proved functions, one line for each: those that are proved as one table in
-// specs/Pages.antt, and then those that are only to be run.
+// crates/worked_cases/specs/Laws/Pages.antt, and then those that are only to be run.
 use blocking::BlockingAnswer;
 use kept_list::Scored;
-use names::RangeStart;
+use number_types::RangeStart;
 use packing::PackedPosting;
 use packing::PackingAnswer;
-use probing::Answer;
 use quantizing::Quantized;
 use refusal::Refusal;
 use refusal::Verdict;
+use search_probe::Answer;
 
 fn say(text: &[u8]) {
     io::write_all(1, text);
@@ -119,7 +119,7 @@ fn quantize(asked: &[u8], values: &[f32], codes: &mut [u8]) {
 fn push(length: &mut u64, packed: &mut [u64], scores: &mut [f32], score: f32, start: RangeStart) {
     if let PackingAnswer::Packed(p) = PackedPosting::pack(start, start.0) {
         let e = Scored::new(p.0, score);
-        if let Verdict::Refused(reason) = pushing::push(2, length, packed, scores, e) {
+        if let Verdict::Refused(reason) = kept_push::push(2, length, packed, scores, e) {
             say_refusal(reason);
         }
     }

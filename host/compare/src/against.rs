@@ -144,8 +144,8 @@ fn searches_agree(r: &mut Random, g: BuildInput, slip: Slip) -> Option<bool> {
         packed: vec![0; k as usize],
         kept_scores: vec![0.0; k as usize],
         visits: visits.clone(),
-        scores: vec![0.0; list.minimums.len()],
-        order: vec![0; list.minimums.len()],
+        block_scores: vec![0.0; list.minimums.len()],
+        block_order: vec![0; list.minimums.len()],
     };
     for (i, e) in entries.iter().enumerate() {
         b.packed[i] = e.0;
@@ -188,7 +188,7 @@ fn searches_agree(r: &mut Random, g: BuildInput, slip: Slip) -> Option<bool> {
     Some(
         ours == them
             && marks == their_marks
-            && bits(&b.scores) == bits(&scores)
+            && bits(&b.block_scores) == bits(&scores)
             && evaluated as usize == their_marks.len() - before.len(),
     )
 }

@@ -15,8 +15,8 @@ pub fn same_buffers(a: &SearchBuffers, b: &SearchBuffers) -> bool {
         && a.packed == b.packed
         && bits(&a.kept_scores) == bits(&b.kept_scores)
         && a.visits == b.visits
-        && bits(&a.scores) == bits(&b.scores)
-        && a.order == b.order
+        && bits(&a.block_scores) == bits(&b.block_scores)
+        && a.block_order == b.block_order
 }
 
 pub fn same_output(a: &List, b: &List) -> bool {
@@ -40,7 +40,7 @@ pub fn same_scratch(a: &Scratch, b: &Scratch) -> bool {
         && a.starts == b.starts
         && a.slots == b.slots
         && bits(&a.weights) == bits(&b.weights)
-        && bits(&a.scores) == bits(&b.scores)
+        && bits(&a.sums) == bits(&b.sums)
         && a.keys == b.keys
 }
 
@@ -70,8 +70,8 @@ pub fn case_any_search(r: &mut Random, slip: Slip) -> Option<bool> {
         packed: vec![5; room],
         kept_scores: vec![-5.0; room],
         visits: (0..=terms + r.below(2)).map(|_| if r.chance(6) { r.pick(&[1, 7, 255]) } else { 0 }).collect(),
-        scores: vec![-3.0; n + r.below(2) as usize],
-        order: vec![99; n + r.below(2) as usize],
+        block_scores: vec![-3.0; n + r.below(2) as usize],
+        block_order: vec![99; n + r.below(2) as usize],
     };
     for (i, e) in entries.iter().enumerate() {
         b.packed[i] = e.0;

@@ -186,7 +186,7 @@ pub fn build_buffers(r: &mut Random, g: &BuildInput, l: &List) -> BuildBuffers {
         steps: vec![-12.0; more(l.steps.len())],
     };
     let needs = if scratch_known(g) { scratch_needs(g) } else { [4; 11] };
-    let [order, blocks, sorted, known, taken, counts, starts, slots, weights, scores, keys] = needs.map(more);
+    let [order, blocks, sorted, known, taken, counts, starts, slots, weights, sums, keys] = needs.map(more);
     let scratch = Scratch {
         order: vec![13; order],
         blocks: vec![14; blocks],
@@ -197,7 +197,7 @@ pub fn build_buffers(r: &mut Random, g: &BuildInput, l: &List) -> BuildBuffers {
         starts: vec![19; starts],
         slots: vec![20; slots],
         weights: vec![-21.0; weights],
-        scores: vec![f32::NAN; scores],
+        sums: vec![f32::NAN; sums],
         keys: vec![22; keys],
     };
     BuildBuffers { output, scratch }

@@ -60,7 +60,7 @@ pub fn damage(r: &mut Random, g: &mut SearchInput, b: &mut SearchBuffers) {
         22 => { let v = any_float(r); if let Some(x) = at(r, &mut l.steps) { *x = v } }
         23 => cut(r, &mut b.packed),
         24 => cut(r, &mut b.visits),
-        25 => { cut(r, &mut b.scores); }
+        25 => { cut(r, &mut b.block_scores); }
         26 => { let v = any_float(r); if let Some(x) = at(r, &mut b.kept_scores) { *x = v } }
         _ => { b.length = near(r, b.length) }
     }
@@ -113,7 +113,7 @@ pub fn cut_build_buffer(r: &mut Random, b: &mut BuildBuffers) {
         14 => cut(r, &mut s.starts),
         15 => cut(r, &mut s.slots),
         16 => cut(r, &mut s.weights),
-        17 => cut(r, &mut s.scores),
+        17 => cut(r, &mut s.sums),
         _ => cut(r, &mut s.keys),
     }
 }

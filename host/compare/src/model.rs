@@ -315,8 +315,8 @@ pub struct SearchBuffers {
     pub packed: Vec<u64>,
     pub kept_scores: Vec<f32>,
     pub visits: Vec<u8>,
-    pub scores: Vec<f32>,
-    pub order: Vec<u64>,
+    pub block_scores: Vec<f32>,
+    pub block_order: Vec<u64>,
 }
 
 #[derive(Clone, Copy, Debug, PartialEq, Eq)]
@@ -395,20 +395,20 @@ pub fn search(slip: Slip, g: &SearchInput, b: &mut SearchBuffers) -> Found {
     if (b.packed.len() as u64) < g.k
         || (b.kept_scores.len() as u64) < g.k
         || b.visits.len() < terms + 1
-        || b.scores.len() < n
-        || (g.sorted && b.order.len() < n)
+        || b.block_scores.len() < n
+        || (g.sorted && b.block_order.len() < n)
     {
         return Found::Refused(4);
     }
     let scores = block_scores(slip, l, &g.query_components, &g.query_values);
-    b.scores[..n].copy_from_slice(&scores);
+    b.block_scores[..n].copy_from_slice(&scores);
     let mut order: Vec<usize> = (0..n).collect();
     if g.sorted {
         order.sort_by(|&i, &j| {
             let tie = if slip == Slip::LastOfEqualScoresFirst { j.cmp(&i) } else { i.cmp(&j) };
             scores[j].total_cmp(&scores[i]).then(tie)
         });
-        for (place, &block) in b.order.iter_mut().zip(&order) {
+        for (place, &block) in b.block_order.iter_mut().zip(&order) {
             *place = block as u64;
         }
     }

@@ -358,7 +358,7 @@ pub struct Scratch {
     pub starts: Vec<u64>,
     pub slots: Vec<u64>,
     pub weights: Vec<f32>,
-    pub scores: Vec<f32>,
+    pub sums: Vec<f32>,
     pub keys: Vec<u64>,
 }
 
@@ -384,7 +384,7 @@ impl Scratch {
             self.starts.len(),
             self.slots.len(),
             self.weights.len(),
-            self.scores.len(),
+            self.sums.len(),
             self.keys.len(),
         ]
     }
@@ -404,7 +404,7 @@ impl Scratch {
             b.fill(0);
         }
         self.weights.fill(0.0);
-        self.scores.fill(0.0);
+        self.sums.fill(0.0);
     }
 }
 

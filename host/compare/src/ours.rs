@@ -47,8 +47,8 @@ pub fn search(g: &SearchInput, b: &mut SearchBuffers) -> Found {
     let mut packed = Guarded::new(&b.packed, 0xdead_beef);
     let mut scores = Guarded::new(&b.kept_scores, -7.5);
     let mut visits = Guarded::new(&b.visits, 0xaa);
-    let mut dots = Guarded::new(&b.scores, -7.5);
-    let mut order = Guarded::new(&b.order, 0xdead_beef);
+    let mut block_scores = Guarded::new(&b.block_scores, -7.5);
+    let mut block_order = Guarded::new(&b.block_order, 0xdead_beef);
     let (mut position, mut evaluated, mut skipped) = (77, 77, 77);
     let l = &g.list;
     let number = unsafe {
@@ -72,8 +72,8 @@ pub fn search(g: &SearchInput, b: &mut SearchBuffers) -> Found {
             packed.at(), packed.len(),
             scores.at(), scores.len(),
             visits.at(), visits.len(),
-            dots.at(), dots.len(),
-            order.at(), order.len(),
+            block_scores.at(), block_scores.len(),
+            block_order.at(), block_order.len(),
             &mut position,
             &mut evaluated,
             &mut skipped,
@@ -82,8 +82,8 @@ pub fn search(g: &SearchInput, b: &mut SearchBuffers) -> Found {
     b.packed = packed.back();
     b.kept_scores = scores.back();
     b.visits = visits.back();
-    b.scores = dots.back();
-    b.order = order.back();
+    b.block_scores = block_scores.back();
+    b.block_order = block_order.back();
     match number {
         0 => {
             assert_eq!(position, 0);
@@ -126,8 +126,8 @@ pub fn timed_search(g: &SearchInput, b: &mut SearchBuffers) -> (Found, f64) {
             b.packed.as_mut_ptr(), b.packed.len(),
             b.kept_scores.as_mut_ptr(), b.kept_scores.len(),
             b.visits.as_mut_ptr(), b.visits.len(),
-            b.scores.as_mut_ptr(), b.scores.len(),
-            b.order.as_mut_ptr(), b.order.len(),
+            b.block_scores.as_mut_ptr(), b.block_scores.len(),
+            b.block_order.as_mut_ptr(), b.block_order.len(),
             &mut position,
             &mut evaluated,
             &mut skipped,
@@ -178,7 +178,7 @@ pub fn build(g: &BuildInput, b: &mut BuildBuffers, noise: u64) -> Option<Result<
     let mut starts = Guarded::new(&s.starts, N);
     let mut slots = Guarded::new(&s.slots, N);
     let mut weights = Guarded::new(&s.weights, F);
-    let mut scores = Guarded::new(&s.scores, F);
+    let mut sums = Guarded::new(&s.sums, F);
     let mut keys = Guarded::new(&s.keys, N);
     let mut w = [77u64; 5];
     let [w0, w1, w2, w3, w4] = &mut w;
@@ -208,7 +208,7 @@ pub fn build(g: &BuildInput, b: &mut BuildBuffers, noise: u64) -> Option<Result<
             starts.at(), starts.len(),
             slots.at(), slots.len(),
             weights.at(), weights.len(),
-            scores.at(), scores.len(),
+            sums.at(), sums.len(),
             keys.at(), keys.len(),
             w0, w1, w2, w3, w4,
         )
@@ -233,7 +233,7 @@ pub fn build(g: &BuildInput, b: &mut BuildBuffers, noise: u64) -> Option<Result<
         starts: starts.back(),
         slots: slots.back(),
         weights: weights.back(),
-        scores: scores.back(),
+        sums: sums.back(),
         keys: keys.back(),
     };
     let [postings, offsets, components, entries, summaries] = w;

@@ -57,7 +57,7 @@ impl Default for PostingList {
 /// let documents = Documents { offsets: &[0, 1], components: &[0], values: &[1.0] };
 /// let query = Query { components: &[0], values: &[1.0] };
 /// let found = PostingList::default().search(documents, query, 1.0, &mut KeptList::new(1), &mut Visits::new(documents))?;
-/// assert_eq!((found.evaluated, found.skipped, found.scores.len()), (0, 0, 0));
+/// assert_eq!((found.evaluated, found.skipped, found.block_scores.len()), (0, 0, 0));
 /// # Ok::<(), merino::SearchError>(())
 /// ```
 #[derive(Clone, Debug, PartialEq)]
@@ -67,9 +67,9 @@ pub struct Found {
     /// How many blocks were skipped.
     pub skipped: u64,
     /// The score of each block.
-    pub scores: Vec<f32>,
+    pub block_scores: Vec<f32>,
     /// The blocks in the order of their turns; empty where that is their own order.
-    pub order: Vec<u64>,
+    pub block_order: Vec<u64>,
 }
 
 /// Which starts were visited: one byte for each start from 0 to the number of terms, kept from search to search.
@@ -184,7 +184,7 @@ impl PostingList {
         let mut starts = vec![0u64; needs.starts];
         let mut slots = vec![0u64; needs.slots];
         let mut weights = vec![0f32; needs.weights];
-        let mut scores = vec![0f32; needs.scores];
+        let mut sums = vec![0f32; needs.sums];
         let mut keys = vec![0u64; needs.keys];
         let mut written = [0u64; 5];
         let [postings_written, offsets_written, components_written, entries_written, summaries_written] = &mut written;
@@ -244,8 +244,8 @@ impl PostingList {
                 slots.len(),
                 weights.as_mut_ptr(),
                 weights.len(),
-                scores.as_mut_ptr(),
-                scores.len(),
+                sums.as_mut_ptr(),
+                sums.len(),
                 keys.as_mut_ptr(),
                 keys.len(),
                 postings_written,
@@ -328,7 +328,7 @@ impl PostingList {
     /// let mut visits = Visits::new(documents);
     /// let query = Query { components: &[0], values: &[3.0] };
     /// let found = list.search(documents, query, 0.9, &mut kept, &mut visits)?;
-    /// assert_eq!((found.evaluated, found.skipped, &found.scores[..]), (2, 0, &[6.0][..]));
+    /// assert_eq!((found.evaluated, found.skipped, &found.block_scores[..]), (2, 0, &[6.0][..]));
     /// let best = kept.entries().next().unwrap();
     /// assert_eq!((best.start(), best.score), (1, 6.0));
     /// assert_eq!(documents.page_number(best.start()), Ok(1));
@@ -339,7 +339,7 @@ impl PostingList {
         self.probe(false, documents, query, heap_factor, kept, visits)
     }
 
-    /// The same, with the blocks by greater score first, equal ones by the smaller number; [`Found::order`] then has that order.
+    /// The same, with the blocks by greater score first, equal ones by the smaller number; [`Found::block_order`] then has that order.
     ///
     /// ```
     /// use merino::{Documents, KeptList, PostingList, Query, Visits};
@@ -357,7 +357,7 @@ impl PostingList {
     /// let mut kept = KeptList::new(1);
     /// let query = Query { components: &[0], values: &[1.0] };
     /// let found = list.sort_and_search(documents, query, 1.0, &mut kept, &mut Visits::new(documents))?;
-    /// assert_eq!(found.order, [1, 0]);
+    /// assert_eq!(found.block_order, [1, 0]);
     /// assert_eq!((found.evaluated, found.skipped), (1, 1));
     /// # Ok::<(), merino::SearchError>(())
     /// ```
@@ -385,8 +385,8 @@ impl PostingList {
         let k = kept.k().min(kept.length + self.postings.len() as u64 + 1);
         kept.grow(k);
         let blocks = self.minimums.len();
-        let mut scores = vec![0f32; blocks];
-        let mut order = vec![0u64; if by_score { blocks } else { 0 }];
+        let mut block_scores = vec![0f32; blocks];
+        let mut block_order = vec![0u64; if by_score { blocks } else { 0 }];
         let (mut position, mut evaluated, mut skipped) = (0, 0, 0);
         // sound: what is written is this call's own or exclusively borrowed, and each pointer goes with its own length
         let number = unsafe {
@@ -425,17 +425,17 @@ impl PostingList {
                 kept.scores.len(),
                 visits.bytes.as_mut_ptr(),
                 visits.bytes.len(),
-                scores.as_mut_ptr(),
-                scores.len(),
-                order.as_mut_ptr(),
-                order.len(),
+                block_scores.as_mut_ptr(),
+                block_scores.len(),
+                block_order.as_mut_ptr(),
+                block_order.len(),
                 &mut position,
                 &mut evaluated,
                 &mut skipped,
             )
         };
         match Refusal::verdict(number) {
-            Ok(()) => Ok(Found { evaluated, skipped, scores, order }),
+            Ok(()) => Ok(Found { evaluated, skipped, block_scores, block_order }),
             Err(refusal @ (Refusal::PastTheTerms | Refusal::WrongTerms)) => Err(SearchError::Stopped { refusal, position }),
             Err(refusal) => Err(SearchError::Refused(refusal)),
         }

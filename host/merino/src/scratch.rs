@@ -31,7 +31,7 @@ pub struct ScratchNeeds {
     /// Their weights, likewise.
     pub weights: usize,
     /// Scores by centroid, later maxima by component: the greater of the two.
-    pub scores: usize,
+    pub sums: usize,
     /// A block's keys: one for each component.
     pub keys: usize,
 }
@@ -65,7 +65,7 @@ impl ScratchNeeds {
             starts: (dimension as usize).saturating_add(1),
             slots: terms,
             weights: terms,
-            scores: most,
+            sums: most,
             keys: dimension as usize,
         }
     }

@@ -1,8 +1,9 @@
--- `blocking::fixed_size_blocking` meets its contract: each answer is the one of the tests that led to it. Assumes nothing.
+-- `blocking::fixed_size_blocking` meets its contract: each answer is the one of the tests that led to it.
 use mathlib.Core.Path.{refl, sym, _∙_}
 use borrow.Author.Needs.{needs}
 use native.Mathlib.Nat.{div-mul-le-self}
-use Rattle.blocking.specs.Laws.{length-refused, size-refused, blocks-refused, buffer-refused, offsets-written}
+use Rattle.blocking.specs.Laws.Blocking.{length-refused, size-refused}
+use Rattle.blocking.specs.Laws.Blocking.{blocks-refused, buffer-refused, offsets-written}
 use Rattle.blocking.proofs.fixed_size_blocking.Statement.{statement}
 use Rattle.blocking.proofs.fixed_size_blocking.Tie as tie
 
@@ -45,9 +46,15 @@ same-length c = search needs
 
 returns-5 : tie.Need-returns-5
 returns-5 c =
-    let short = sym (c .before .before .before .before .before .before .before .before .before .list-too-long .ensures) ∙ c .before .before .before .before .before .before .before .before .if1 .left in
-    let few = sym (c .before .before .before .before .before .before .too-many-blocks .ensures) ∙ c .before .before .before .before .before .if3 .left in
-    let done = offsets-written _ _ _ short (c .before .before .before .before .before .before .before .if2 .left) few (c .before .before .before .before .if4 .left) in
+    let at-else4 : tie.Else4 = search needs in
+    let at-else3 : tie.Else3 = search needs in
+    let at-too-many-blocks : tie.After-too-many-blocks = search needs in
+    let at-else2 : tie.Else2 = search needs in
+    let at-else1 : tie.Else1 = search needs in
+    let at-list-too-long : tie.After-list-too-long = search needs in
+    let short = sym (at-list-too-long .list-too-long .ensures) ∙ at-else1 .if1 .left in
+    let few = sym (at-too-many-blocks .too-many-blocks .ensures) ∙ at-else3 .if3 .left in
+    let done = offsets-written _ _ _ short (at-else2 .if2 .left) few (at-else4 .if4 .left) in
     (done .0, c .before .before .write-offsets .ensures ∙ done .1)
 
 pub fixed-size-blocking-spec : {M : Type 1} → statement M

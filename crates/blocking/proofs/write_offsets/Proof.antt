@@ -1,4 +1,4 @@
--- `blocking::write_offsets` meets its contract: the first i places have the starts of i blocks. Assumes nothing.
+-- `blocking::write_offsets` meets its contract: the first i places have the starts of i blocks.
 use mathlib.Core.Path.{_≡_, _∙_}
 use mathlib.Core.List.{_++_}
 use Prim.Native.Nat.{_*_, _-_, _≤_}
@@ -11,20 +11,20 @@ use Rattle.blocking.proofs.write_offsets.Statement.{statement}
 use Rattle.blocking.proofs.write_offsets.Tie as tie
 
 abbrev Inv-loop : tie.InvT-loop
-Inv-loop ids size blocks offsets₀ start₀ i₀ offsets start i =
-    (i ≤ blocks) × (length offsets ≡ length offsets₀) × (start ≡ i * size) × (offsets ≡ starts size i ++ drop i offsets₀)
+Inv-loop ids size blocks block-offsets₀ start₀ i₀ block-offsets start i =
+    (i ≤ blocks) × (length block-offsets ≡ length block-offsets₀) × (start ≡ i * size) × (block-offsets ≡ starts size i ++ drop i block-offsets₀)
 
 abbrev μ-loop : tie.MeasureT-loop
-μ-loop ids size blocks offsets₀ start₀ i₀ offsets start i = blocks - i
+μ-loop ids size blocks block-offsets₀ start₀ i₀ block-offsets start i = blocks - i
 
 loop-holds : tie.Need-loop-holds Inv-loop μ-loop
 loop-holds c = search needs
 
-mul-offsets : tie.Need-mul-offsets Inv-loop μ-loop
-mul-offsets c = search needs
+mul-block-offsets : tie.Need-mul-block-offsets Inv-loop μ-loop
+mul-block-offsets c = search needs
 
-slice-write-offsets : tie.Need-slice-write-offsets Inv-loop μ-loop
-slice-write-offsets c = search needs
+slice-write-block-offsets : tie.Need-slice-write-block-offsets Inv-loop μ-loop
+slice-write-block-offsets c = search needs
 
 add-start : tie.Need-add-start Inv-loop μ-loop
 add-start c =
@@ -44,16 +44,16 @@ loop-again c =
     let p = c .before .before .pre in
     let within = c .loop-test .taken in (
       omega arith,
-      length-set (l .offsets) (l .i) (l .start) ∙ l .inv .1,
+      length-set (l .block-offsets) (l .i) (l .start) ∙ l .inv .1,
       omega (arith, l .inv .2),
-      rw (l .inv .3, l .inv .2) (one-more _ (l .i) (c .before .before .args .offsets .now) (omega (arith, within, p .1))),
+      rw (l .inv .3, l .inv .2) (one-more _ (l .i) (c .before .before .args .block-offsets .now) (omega (arith, within, p .1))),
     )
 
-mul-offsets-2 : tie.Need-mul-offsets-2 Inv-loop μ-loop
-mul-offsets-2 c = search needs
+mul-block-offsets-2 : tie.Need-mul-block-offsets-2 Inv-loop μ-loop
+mul-block-offsets-2 c = search needs
 
-slice-write-offsets-2 : tie.Need-slice-write-offsets-2 Inv-loop μ-loop
-slice-write-offsets-2 c = search needs
+slice-write-block-offsets-2 : tie.Need-slice-write-block-offsets-2 Inv-loop μ-loop
+slice-write-block-offsets-2 c = search needs
 
 same-length : tie.Need-same-length Inv-loop μ-loop
 same-length c = search needs
@@ -63,7 +63,7 @@ returns c =
     let l = c .before .loop in
     let p = c .before .before .pre in
     let all : l .i ≡ c .before .before .args .blocks = omega (arith, l .inv .0, c .loop-test .left) in
-    rw (l .inv .3) (ended _ (l .i) (c .before .before .args .offsets .now) (omega (arith, p .1)) _ (all ∙ p .0))
+    rw (l .inv .3) (ended _ (l .i) (c .before .before .args .block-offsets .now) (omega (arith, p .1)) _ (all ∙ p .0))
 
 pub write-offsets-spec : {M : Type 1} → statement M
 write-offsets-spec =
@@ -72,13 +72,13 @@ write-offsets-spec =
     Inv-loop
     μ-loop
     loop-holds
-    mul-offsets
-    slice-write-offsets
+    mul-block-offsets
+    slice-write-block-offsets
     add-start
     add-i
     loop-less
     loop-again
-    mul-offsets-2
-    slice-write-offsets-2
+    mul-block-offsets-2
+    slice-write-block-offsets-2
     same-length
     returns)

@@ -1,4 +1,4 @@
--- The loop's invariant: what was found so far and the check of the documents left make the check of all. Assumes nothing.
+-- The loop's invariant: what was found so far and the check of the documents left make the check of all.
 use mathlib.Core.Path.{_≡_, refl, _∙_}
 use Prim.Native.Nat.{_≤_, _-_}
 use native.Mathlib.Omega.{arith}
@@ -16,6 +16,16 @@ Inv-loop dimension offsets components values ids ok₀ i₀ ok i = (i ≤ length
 
 abbrev μ-loop : tie.MeasureT-loop
 μ-loop dimension offsets components values ids ok₀ i₀ ok i = length ids - i
+
+-- the places that the needs speak of, found by their types
+abbrev loop-before-loop-again : tie.After-document-holds Inv-loop μ-loop → tie.At-loop Inv-loop μ-loop
+loop-before-loop-again p = search needs
+
+abbrev loop-before-returns : tie.After-loop Inv-loop μ-loop → tie.At-loop Inv-loop μ-loop
+loop-before-returns p = search needs
+
+abbrev start-of : tie.At-loop Inv-loop μ-loop → tie.Start Inv-loop μ-loop
+start-of p = search needs
 
 loop-holds : tie.Need-loop-holds Inv-loop μ-loop
 loop-holds c = (omega arith, refl)
@@ -36,10 +46,16 @@ loop-less : tie.Need-loop-less Inv-loop μ-loop
 loop-less c = search needs
 
 loop-again : tie.Need-loop-again Inv-loop μ-loop
-loop-again c = let l = c .before .before .before .loop in let a = c .before .before .before .before .before .before .before .before .args in (omega arith, listed-step (l .ok) (a .dimension) (documents (a .offsets .now) (a .components .now) (a .values .now)) (a .ids .now) (l .i) (c .document-holds .result) (omega arith) (c .document-holds .ensures) ∙ l .inv .1)
+loop-again c =
+    let l = (loop-before-loop-again c) .loop in
+    let a = (start-of (loop-before-loop-again c)) .args in
+    (omega arith, listed-step (l .ok) (a .dimension) (documents (a .offsets .now) (a .components .now) (a .values .now)) (a .ids .now) (l .i) (c .document-holds .result) (omega arith) (c .document-holds .ensures) ∙ l .inv .1)
 
 returns : tie.Need-returns Inv-loop μ-loop
-returns c = let l = c .before .loop in let a = c .before .before .before .before .before .before .args in listed-end (l .ok) (a .dimension) (documents (a .offsets .now) (a .components .now) (a .values .now)) (a .ids .now) (l .i) _ (omega arith) (l .inv .1)
+returns c =
+    let l = c .before .loop in
+    let a = (start-of (loop-before-returns c)) .args in
+    listed-end (l .ok) (a .dimension) (documents (a .offsets .now) (a .components .now) (a .values .now)) (a .ids .now) (l .i) _ (omega arith) (l .inv .1)
 
 pub documents-hold-spec : {M : Type 1} → statement M
 documents-hold-spec =

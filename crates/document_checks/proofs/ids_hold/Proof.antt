@@ -1,4 +1,4 @@
--- The loop's invariant: what was found so far and the check of the ids left make the check of all. Assumes nothing.
+-- The loop's invariant: what was found so far and the check of the ids left make the check of all.
 use mathlib.Core.Path.{_≡_, refl, _∙_}
 use Prim.Native.Nat.{_≤_, _-_}
 use mathlib.Core.Bool.{_&&_}

@@ -1,10 +1,10 @@
--- The loop's invariant: what was found so far and the offsets from the last one looked at make the check of all. Assumes nothing.
+-- The loop's invariant: what was found so far and the offsets from the last one looked at make the check of all.
 use mathlib.Core.Path.{_≡_, refl, _∙_}
 use Prim.Native.Nat.{_≤_, _-_}
 use mathlib.Core.Bool.{_&&_}
 use native.Mathlib.Omega.{arith}
 use lib.ListN.{length, drop}
-use Rattle.lists.specs.Lists.{neverFalls}
+use Rattle.sequences.specs.Lists.{neverFalls}
 use Rattle.documents.specs.Checks.{offsetsHoldFree}
 use Rattle.document_checks.proofs.Loops.{offsets-none, offsets-first, offsets-step, offsets-end}
 use borrow.Author.Needs.{needs}
@@ -16,6 +16,13 @@ Inv-loop offsets n first ok₀ i₀ ok i = (1 ≤ i) × (i ≤ length offsets) �
 
 abbrev μ-loop : tie.MeasureT-loop
 μ-loop offsets n first ok₀ i₀ ok i = n - i
+
+-- the places that the needs speak of, found by their types
+abbrev loop-of : tie.After-shared-slice-known3 Inv-loop μ-loop → tie.At-loop Inv-loop μ-loop
+loop-of p = search needs
+
+abbrev start-of : tie.At-loop Inv-loop μ-loop → tie.Start Inv-loop μ-loop
+start-of p = search needs
 
 returns : tie.Need-returns Inv-loop μ-loop
 returns c = offsets-none (c .before .args .offsets .now) (c .if1 .taken)
@@ -48,7 +55,10 @@ loop-less : tie.Need-loop-less Inv-loop μ-loop
 loop-less c = search needs
 
 loop-again : tie.Need-loop-again Inv-loop μ-loop
-loop-again c = let l = c .before .before .before .loop in let a = c .before .before .before .before .before .before .args in (omega arith, omega arith, l .inv .2, offsets-step (l .ok) (a .offsets .now) (l .i) (l .inv .0) (omega arith) ∙ l .inv .3)
+loop-again c =
+    let l = (loop-of c) .loop in
+    let a = (start-of (loop-of c)) .args in
+    (omega arith, omega arith, l .inv .2, offsets-step (l .ok) (a .offsets .now) (l .i) (l .inv .0) (omega arith) ∙ l .inv .3)
 
 returns-2 : tie.Need-returns-2 Inv-loop μ-loop
 returns-2 c = let l = c .before .loop in let a = c .before .before .before .before .args in offsets-end (l .ok) (a .offsets .now) (l .i) _ (l .inv .0) (omega arith) (l .inv .3)

@@ -1,13 +1,13 @@
--- The loop's invariant: what was found so far, the components from the last one looked at and the values left make the check of all. Assumes nothing.
+-- The loop's invariant: what was found so far, the components from the last one looked at and the values left make the check of all.
 use mathlib.Core.Path.{_≡_, refl, sym, _∙_}
 use Prim.Native.Nat.{_≤_, _-_}
 use mathlib.Core.Bool.{_&&_}
 use native.Mathlib.Omega.{arith}
 use lib.ListN.{length, drop}
 use Rattle.float32.specs.Bound.{inBound}
-use Rattle.lists.specs.Lists.{every, strictlyRise}
+use Rattle.sequences.specs.Lists.{every, strictlyRise}
 use Rattle.documents.specs.Checks.{slicesHold}
-use Rattle.documents.specs.Laws.{slices-uneven}
+use Rattle.documents.specs.Laws.Documents.{slices-uneven}
 use Rattle.document_checks.proofs.Loops.{terms-none, terms-first, terms-step, terms-end}
 use borrow.Author.Needs.{needs}
 use Rattle.document_checks.proofs.slices_hold.Statement.{statement}
@@ -18,6 +18,13 @@ Inv-loop components values n first ok₀ i₀ ok i = (1 ≤ i) × (i ≤ length 
 
 abbrev μ-loop : tie.MeasureT-loop
 μ-loop components values n first ok₀ i₀ ok i = n - i
+
+-- the places that the needs speak of, found by their types
+abbrev loop-of : tie.After-shared-slice-known4 Inv-loop μ-loop → tie.At-loop Inv-loop μ-loop
+loop-of p = search needs
+
+abbrev start-of : tie.At-loop Inv-loop μ-loop → tie.Start Inv-loop μ-loop
+start-of p = search needs
 
 returns : tie.Need-returns Inv-loop μ-loop
 returns c = sym (slices-uneven _ _ (c .if1 .taken))
@@ -59,7 +66,10 @@ loop-less : tie.Need-loop-less Inv-loop μ-loop
 loop-less c = search needs
 
 loop-again : tie.Need-loop-again Inv-loop μ-loop
-loop-again c = let l = c .before .before .before .before .loop in let a = c .before .before .before .before .before .before .before .before .args in (omega arith, omega arith, l .inv .2, l .inv .3, terms-step (l .ok) (a .components .now) (a .values .now) (l .i) (l .inv .0) (omega arith) (l .inv .2) ∙ l .inv .4)
+loop-again c =
+    let l = (loop-of c) .loop in
+    let a = (start-of (loop-of c)) .args in
+    (omega arith, omega arith, l .inv .2, l .inv .3, terms-step (l .ok) (a .components .now) (a .values .now) (l .i) (l .inv .0) (omega arith) (l .inv .2) ∙ l .inv .4)
 
 returns-3 : tie.Need-returns-3 Inv-loop μ-loop
 returns-3 c = let l = c .before .loop in let a = c .before .before .before .before .before .args in terms-end (l .ok) (a .components .now) (a .values .now) (l .i) _ (l .inv .0) (omega arith) (l .inv .2) (l .inv .4)

@@ -1,4 +1,4 @@
--- What lies between an offset and the next, by where the two stand. Assumes nothing.
+-- What lies between an offset and the next, by where the two stand.
 use Rattle.documents.proofs.Loops.{between-past, between-last, between-empty, between-whole}
 use borrow.Author.Needs.{needs}
 use Rattle.documents.proofs.between.Statement.{statement}

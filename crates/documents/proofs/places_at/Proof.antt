@@ -1,4 +1,4 @@
--- The two places, each cut to what there is. Assumes nothing.
+-- The two places, each cut to what there is.
 use Rattle.documents.proofs.Loops.{places-past, places-cut, places-whole}
 use borrow.Author.Needs.{needs}
 use Rattle.documents.proofs.places_at.Statement.{statement}

@@ -1,4 +1,4 @@
--- The two places between which a document's terms stand are its range. Assumes nothing.
+-- The two places between which a document's terms stand are its range.
 use mathlib.Core.Path.{ap}
 use borrow.Author.Needs.{needs}
 use Rattle.documents.specs.declared.DocumentRange.{DocumentRange}

@@ -3,9 +3,9 @@ use mathlib.Core.Path.{ap, _∙_}
 use Prim.Native.Nat.{ℕ}
 use lib.Dec.{leb}
 use borrow.Author.Needs.{needs}
-use Rattle.float32.specs.Tests.{yes}
+use Rattle.float32.specs.Laws.Tests.{yes}
 use Rattle.float32.specs.Key.{keyOf}
-use Rattle.float32.specs.KeyLaws.{key-order}
+use Rattle.float32.specs.Laws.KeyLaws.{key-order}
 use Rattle.float32.proofs.at_most.Statement.{statement}
 use Rattle.float32.proofs.at_most.Tie as tie
 

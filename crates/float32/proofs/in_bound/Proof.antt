@@ -1,5 +1,5 @@
 -- `float32::in_bound` meets its contract: its two comparisons are the bound.
-use Rattle.float32.specs.BoundLaws.{in-bound-tests}
+use Rattle.float32.specs.Laws.BoundLaws.{in-bound-tests}
 use Rattle.float32.proofs.in_bound.Statement.{statement}
 use Rattle.float32.proofs.in_bound.Tie as tie
 

@@ -6,9 +6,9 @@ use lib.Ieee.Bits.{toBits-lt}
 use lib.Ieee.Compare.{differs-from-itself}
 use borrow.Author.Needs.{needs}
 use borrow.Author.Tests.{le-leb, lt-leb}
-use Rattle.float32.specs.Tests.{yes}
+use Rattle.float32.specs.Laws.Tests.{yes}
 use Rattle.float32.specs.Key.{keyOf}
-use Rattle.float32.specs.KeyLaws.{key-of-nan, key-of-number, equals-itself}
+use Rattle.float32.specs.Laws.KeyLaws.{key-of-nan, key-of-number, equals-itself}
 use Rattle.float32.proofs.key.Statement.{statement}
 use Rattle.float32.proofs.key.Tie as tie
 

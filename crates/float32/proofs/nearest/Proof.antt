@@ -1,7 +1,7 @@
 -- `float32::nearest` meets its contract: both halves are exact, so only the sum rounds.
 use lib.Ieee.{ofBits, inFloat}
 use borrow.Author.Needs.{needs}
-use Rattle.float32.specs.LengthLaws.{kept-small, high-half, low-half, short-nearest, long-nearest}
+use Rattle.float32.specs.Laws.Lengths.{kept-small, high-half, low-half, short-nearest, long-nearest}
 use Rattle.float32.proofs.nearest.Statement.{statement}
 use Rattle.float32.proofs.nearest.Tie as tie
 

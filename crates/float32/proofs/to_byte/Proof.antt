@@ -5,9 +5,9 @@ use native.Mathlib.Nat.{le-trans}
 use lib.Dec.{le→leb, lit≤}
 use lib.Ieee.{ofBits, le, inFloat}
 use borrow.Author.Needs.{needs}
-use Rattle.float32.specs.Tests.{yes}
-use Rattle.float32.specs.RoundingLaws.{byte-is}
-use Rattle.float32.specs.ByteLaws.{halfWay, byte-top, byte-by, byte-fits}
+use Rattle.float32.specs.Laws.Tests.{yes}
+use Rattle.float32.specs.Laws.RoundingLaws.{byte-is}
+use Rattle.float32.specs.Laws.ByteLaws.{halfWay, byte-top, byte-by, byte-fits}
 use Rattle.float32.proofs.to_byte.Statement.{statement}
 use Rattle.float32.proofs.to_byte.Tie as tie
 

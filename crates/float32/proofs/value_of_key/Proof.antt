@@ -4,7 +4,7 @@ use lib.Ieee.{ofBits, div}
 use borrow.Author.Needs.{needs}
 use borrow.Author.Tests.{le-leb, lt-leb}
 use Rattle.float32.specs.Key.{valueOf}
-use Rattle.float32.specs.KeyLaws.{number-pattern, no-key-below, no-key-above}
+use Rattle.float32.specs.Laws.KeyLaws.{number-pattern, no-key-below, no-key-above}
 use Rattle.float32.proofs.value_of_key.Statement.{statement}
 use Rattle.float32.proofs.value_of_key.Tie as tie
 

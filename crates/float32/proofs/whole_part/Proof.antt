@@ -3,8 +3,8 @@ use mathlib.Core.Path.{sym, subst}
 use lib.Dec.{T}
 use lib.Ieee.{ofBits, neg}
 use borrow.Author.Needs.{needs}
-use Rattle.float32.specs.Tests.{yes, no}
-use Rattle.float32.specs.CountLaws.{whole-over, whole-none}
+use Rattle.float32.specs.Laws.Tests.{yes, no}
+use Rattle.float32.specs.Laws.CountLaws.{whole-over, whole-none}
 use Rattle.float32.proofs.whole_part.Statement.{statement}
 use Rattle.float32.proofs.whole_part.Tie as tie
 

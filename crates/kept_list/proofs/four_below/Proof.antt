@@ -1,6 +1,6 @@
--- `kept_list::four_below`: the tests are those of the definition. Assumes nothing.
+-- `kept_list::four_below`: the tests are those of the definition.
 use mathlib.Core.Path.{refl}
-use Rattle.float32.specs.Tests.{yes}
+use Rattle.float32.specs.Laws.Tests.{yes}
 use Rattle.kept_list.specs.Fours.{fourBelow}
 use borrow.Author.Needs.{needs}
 use Rattle.kept_list.proofs.four_below.Statement.{statement}

@@ -1,4 +1,4 @@
--- `kept_list::insert` meets its contract: what the entry has still to pass gives what all of it gives. Assumes nothing.
+-- `kept_list::insert` meets its contract: what the entry has still to pass gives what all of it gives.
 use Prim.Native.Nat.{_-_}
 use native.Mathlib.Omega.{arith}
 use mathlib.Core.Path.{refl, sym, _∙_}
@@ -15,6 +15,16 @@ Inv-loop at packed₀ scores₀ e i₀ packed scores i = Climbing at packed₀ s
 
 abbrev μ-loop : tie.MeasureT-loop
 μ-loop at packed₀ scores₀ e i₀ packed scores i = i
+
+-- the places that the needs speak of, found by their types
+abbrev loop-before-returns : tie.Then3 Inv-loop μ-loop → tie.At-loop Inv-loop μ-loop
+loop-before-returns p = search needs
+
+abbrev loop-before-loop-again-2 : tie.Else3 Inv-loop μ-loop → tie.At-loop Inv-loop μ-loop
+loop-before-loop-again-2 p = search needs
+
+abbrev start-of : tie.At-loop Inv-loop μ-loop → tie.Start Inv-loop μ-loop
+start-of p = search needs
 
 mul-packed : tie.Need-mul-packed Inv-loop μ-loop
 mul-packed c = search needs
@@ -38,17 +48,28 @@ four-below-requires : tie.Need-four-below-requires Inv-loop μ-loop
 four-below-requires c κs = let i = c .before .before .before .loop .inv in (c .before .if1 .taken, omega (arith, i .within, i .room-scores))
 
 pass-four-requires : tie.Need-pass-four-requires Inv-loop μ-loop
-pass-four-requires c κs = let i = c .before .before .before .before .before .before .before .loop .inv in (c .before .before .before .before .before .if1 .taken, omega (arith, i .within, i .room), omega (arith, i .within, i .room-scores))
+pass-four-requires c κs =
+    let at-then1 : tie.Then1 Inv-loop μ-loop = search needs in
+    let at-loop : tie.At-loop Inv-loop μ-loop = search needs in
+    let i = at-loop .loop .inv in (at-then1 .if1 .taken, omega (arith, i .within, i .room), omega (arith, i .within, i .room-scores))
 
 loop-less : tie.Need-loop-less Inv-loop μ-loop
-loop-less c = omega (arith, c .before .before .before .before .before .before .before .before .before .before .if1 .taken)
+loop-less c =
+    let at-then1 : tie.Then1 Inv-loop μ-loop = search needs in
+    omega (arith, at-then1 .if1 .taken)
 
 loop-again : tie.Need-loop-again Inv-loop μ-loop
 loop-again c =
-    let s = c .before .before .before .before .before .before .before .before .before .before .before .before .before .before .before .args in
-    let l = c .before .before .before .before .before .before .before .before .before .before .before .before .loop in
-    let p = c .before .before .before .before .pass-four .ensures in
-    let up = climb-four (s .at) (set (s .packed .now) (s .at) (s .e .packed)) (set (s .scores .now) (s .at) (s .e .score)) (s .e) (l .packed) (l .scores) (l .i) (c .before .before .before .before .before .before .before .before .before .before .if1 .taken) (l .inv) (c .before .before .before .before .before .before .before .before .four-below .ensures .1) (sym (c .before .before .before .before .before .before .before .before .four-below .ensures .0) ∙ c .before .before .before .before .before .before .before .if2 .taken) in
+    let at-pass-four : tie.After-pass-four Inv-loop μ-loop = search needs in
+    let at-then2 : tie.Then2 Inv-loop μ-loop = search needs in
+    let at-four-below : tie.After-four-below Inv-loop μ-loop = search needs in
+    let at-then1 : tie.Then1 Inv-loop μ-loop = search needs in
+    let at-loop : tie.At-loop Inv-loop μ-loop = search needs in
+    let start : tie.Start Inv-loop μ-loop = search needs in
+    let s = start .args in
+    let l = at-loop .loop in
+    let p = at-pass-four .pass-four .ensures in
+    let up = climb-four (s .at) (set (s .packed .now) (s .at) (s .e .packed)) (set (s .scores .now) (s .at) (s .e .score)) (s .e) (l .packed) (l .scores) (l .i) (at-then1 .if1 .taken) (l .inv) (at-four-below .four-below .ensures .1) (sym (at-four-below .four-below .ensures .0) ∙ at-then2 .if2 .taken) in
     rw (p .0, p .1) up
 
 sub-j : tie.Need-sub-j Inv-loop μ-loop
@@ -71,19 +92,23 @@ better-requires c κs = search needs
 
 same-length : tie.Need-same-length Inv-loop μ-loop
 same-length c =
-    let s = c .before .before .before .before .before .before .before .before .before .args in
-    c .before .before .before .before .before .before .loop .inv .as-many ∙ length-set (s .packed .now) (s .at) (s .e .packed)
+    let at-loop = loop-before-returns c in
+    let start = start-of at-loop in
+    let s = start .args in
+    at-loop .loop .inv .as-many ∙ length-set (s .packed .now) (s .at) (s .e .packed)
 
 same-length-2 : tie.Need-same-length-2 Inv-loop μ-loop
 same-length-2 c =
-    let s = c .before .before .before .before .before .before .before .before .before .args in
-    c .before .before .before .before .before .before .loop .inv .as-many-scores ∙ length-set (s .scores .now) (s .at) (s .e .score)
+    let at-loop = loop-before-returns c in
+    let start = start-of at-loop in
+    let s = start .args in
+    at-loop .loop .inv .as-many-scores ∙ length-set (s .scores .now) (s .at) (s .e .score)
 
 returns : tie.Need-returns Inv-loop μ-loop
 returns c =
-    let s = c .before .before .before .before .before .before .before .before .before .args in
-    let p = c .before .before .before .before .before .before .before .before .before .pre in
-    let l = c .before .before .before .before .before .before .loop in
+    let s = (start-of (loop-before-returns c)) .args in
+    let p = (start-of (loop-before-returns c)) .pre in
+    let l = (loop-before-returns c) .loop in
     climb-stay (s .at) (set (s .packed .now) (s .at) (s .e .packed)) (set (s .scores .now) (s .at) (s .e .score)) (s .e) (l .packed) (l .scores) (l .i) (l .i - 1) (omega arith) (l .inv)
     _ refl (sym (c .before .better .ensures) ∙ not-true _ (c .if3 .taken))
     ∙ laid-down (s .e) (s .at) (s .packed .now) (s .scores .now) (p .0) (p .1)
@@ -117,9 +142,9 @@ loop-less-2 c = search needs
 
 loop-again-2 : tie.Need-loop-again-2 Inv-loop μ-loop
 loop-again-2 c =
-    let s = c .before .before .before .before .before .before .before .before .before .args in
-    let p = c .before .before .before .before .before .before .before .before .before .pre in
-    let l = c .before .before .before .before .before .before .loop in
+    let s = (start-of (loop-before-loop-again-2 c)) .args in
+    let p = (start-of (loop-before-loop-again-2 c)) .pre in
+    let l = (loop-before-loop-again-2 c) .loop in
     climb-up (s .at) (set (s .packed .now) (s .at) (s .e .packed)) (set (s .scores .now) (s .at) (s .e .score)) (s .e) (l .packed) (l .scores) (l .i) (l .i - 1) (omega arith) (l .inv)
     _ refl (sym (c .before .better .ensures) ∙ not-false _ (c .if3 .left))
 

@@ -1,4 +1,4 @@
--- `kept_list::pass_scores`: the writes are those of the definition. Assumes nothing.
+-- `kept_list::pass_scores`: the writes are those of the definition.
 use native.Mathlib.Omega.{arith}
 use lib.ListN.{length-set}
 use borrow.Author.Needs.{needs}

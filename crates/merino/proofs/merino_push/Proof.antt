@@ -1,4 +1,4 @@
--- `merino_push` shows what `kept_list::push` leaves. Assumes nothing.
+-- `merino_push` shows what `kept_list::push` leaves.
 use borrow.Author.Needs.{needs}
 use Rattle.merino.proofs.Laws.{push-crosses}
 use Rattle.merino.proofs.merino_push.Statement.{statement}
@@ -20,7 +20,10 @@ same-length-2 : tie.Need-same-length-2
 same-length-2 c = search needs
 
 returns : tie.Need-returns
-returns c = push-crosses _ _ _ _ _ _ _ (c .number .ensures) (c .before .before .before .before .before .push .ensures) (c .before .before .before .before .before .before .new .ensures)
+returns c =
+    let at-new : tie.After-new = search needs in
+    let at-push : tie.After-push = search needs in
+    push-crosses _ _ _ _ _ _ _ (c .number .ensures) (at-push .push .ensures) (at-new .new .ensures)
 
 pub merino-push-spec : {M : Type 1} → statement M
 merino-push-spec = tie.close (tie.spec new-requires push-requires number-requires same-length same-length-2 returns)

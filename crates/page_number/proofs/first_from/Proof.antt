@@ -1,4 +1,4 @@
--- The loop's invariant: the offsets before `low` are below the start, those from `high` on are not. Assumes nothing.
+-- The loop's invariant: the offsets before `low` are below the start, those from `high` on are not.
 use native.Mathlib.Omega.{arith}
 use Prim.Native.Nat.{ℕ, _≤_, _<_, _-_, _+_, _/_}
 use lib.ListN.{getD}

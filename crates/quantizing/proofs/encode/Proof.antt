@@ -1,4 +1,4 @@
--- `quantizing::encode` meets its contract. The invariant: the first i values are coded, and past them stands what was lent. Assumes nothing.
+-- `quantizing::encode` meets its contract. The invariant: the first i values are coded, and past them stands what was lent.
 use mathlib.Core.Path.{_≡_, refl, ap, _∙_}
 use Prim.Native.Nat.{_≤_, _-_}
 use native.Mathlib.Omega.{arith}

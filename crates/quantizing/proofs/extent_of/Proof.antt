@@ -1,4 +1,4 @@
--- `quantizing::extent_of` meets its contract. The invariant: what is left of the pass gives the lowest and the highest key of all. Assumes nothing.
+-- `quantizing::extent_of` meets its contract. The invariant: what is left of the pass gives the lowest and the highest key of all.
 use mathlib.Core.Path.{_≡_, refl, sym, ap, _∙_}
 use Prim.Native.Nat.{_≤_, _+_, _-_, min, max}
 use native.Mathlib.Omega.{arith}
@@ -7,7 +7,7 @@ use lib.Ieee.{nan}
 use denote.Ref.{now}
 use borrow.Author.Needs.{needs, scaled-fits}
 use Rattle.float32.specs.Key.{keyOf, valueOf}
-use Rattle.quantizing.specs.Extremes.{lowest, highest, least-is, greatest-is, each-f32}
+use Rattle.quantizing.specs.Laws.Extremes.{lowest, highest, least-is, greatest-is, each-f32}
 use Rattle.quantizing.specs.Quantizing.{extent, least, greatest}
 use Rattle.quantizing.proofs.Laws.{lowest-more, highest-more, lowest-done, highest-done}
 use Rattle.quantizing.proofs.extent_of.Statement.{statement}
@@ -31,11 +31,11 @@ shared-slice-read-key c = search needs
 key-requires : tie.Need-key-requires Inv-loop μ-loop
 key-requires c κs = search needs
 
-lower-requires : tie.Need-lower-requires Inv-loop μ-loop
-lower-requires c κs = search needs
+smaller-u32-requires : tie.Need-smaller-u32-requires Inv-loop μ-loop
+smaller-u32-requires c κs = search needs
 
-higher-requires : tie.Need-higher-requires Inv-loop μ-loop
-higher-requires c κs = search needs
+greater-u32-requires : tie.Need-greater-u32-requires Inv-loop μ-loop
+greater-u32-requires c κs = search needs
 
 add-i : tie.Need-add-i Inv-loop μ-loop
 add-i c = omega arith
@@ -50,8 +50,8 @@ loop-again c =
     let values = now (at-loop .before .before .args .values) in
     let i = at-loop .loop .i in
     let inv = at-loop .loop .inv in
-    let low : c .before .lower .result ≡ min (at-loop .loop .low) (keyOf (getD values i nan)) = c .before .lower .ensures ∙ ap (min (at-loop .loop .low)) (key .key .ensures) in
-    let high : c .higher .result ≡ max (at-loop .loop .high) (keyOf (getD values i nan)) = c .higher .ensures ∙ ap (max (at-loop .loop .high)) (key .key .ensures) in (
+    let low : c .before .smaller-u32 .result ≡ min (at-loop .loop .low) (keyOf (getD values i nan)) = c .before .smaller-u32 .ensures ∙ ap (min (at-loop .loop .low)) (key .key .ensures) in
+    let high : c .greater-u32 .result ≡ max (at-loop .loop .high) (keyOf (getD values i nan)) = c .greater-u32 .ensures ∙ ap (max (at-loop .loop .high)) (key .key .ensures) in (
       omega arith,
       ap (λ k. lowest k (drop (i + 1) values)) low ∙ sym (lowest-more (at-loop .loop .low) values i (omega arith)) ∙ inv .1,
       ap (λ k. highest k (drop (i + 1) values)) high ∙ sym (highest-more (at-loop .loop .high) values i (omega arith)) ∙ inv .2,
@@ -79,4 +79,4 @@ returns c =
 pub extent-of-spec : {M : Type 1} → statement M
 extent-of-spec =
     tie.close
-    (tie.spec Inv-loop μ-loop loop-holds mul-key shared-slice-read-key key-requires lower-requires higher-requires add-i loop-less loop-again value-of-key-requires value-of-key-requires-2 returns)
+    (tie.spec Inv-loop μ-loop loop-holds mul-key shared-slice-read-key key-requires smaller-u32-requires greater-u32-requires add-i loop-less loop-again value-of-key-requires value-of-key-requires-2 returns)

@@ -1,4 +1,4 @@
--- `quantizing::quantize` meets its contract: a case for each of its four returns. Assumes nothing.
+-- `quantizing::quantize` meets its contract: a case for each of its four returns.
 use mathlib.Core.Path.{_∙_}
 use borrow.Author.Needs.{needs}
 use denote.Ref.{now}

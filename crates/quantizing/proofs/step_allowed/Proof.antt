@@ -1,4 +1,4 @@
--- `quantizing::step_allowed` meets its contract: the literal 0.0 is +0. Assumes nothing.
+-- `quantizing::step_allowed` meets its contract: the literal 0.0 is +0.
 use mathlib.Core.Path.{ap}
 use mathlib.Core.Bool.{false, _&&_}
 use lib.IntN.{pos}

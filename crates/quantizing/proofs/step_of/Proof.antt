@@ -1,4 +1,4 @@
--- `quantizing::step_of` meets its contract: the literal 255.0 is the whole number 255. Assumes nothing.
+-- `quantizing::step_of` meets its contract: the literal 255.0 is the whole number 255.
 use mathlib.Core.Path.{refl}
 use lib.Ieee.{ofBits, ofInt}
 use Rattle.quantizing.proofs.step_of.Statement.{statement}

@@ -1,4 +1,4 @@
--- Each kind by the judge of its cases. Assumes nothing.
+-- Each kind by the judge of its cases.
 use Prim.Native.Nat.{ℕ}
 use mathlib.Core.Path.{_≡_, ap, sym, _∙_}
 use mathlib.Core.Bool.{Bool, false}

@@ -1,4 +1,4 @@
--- What the parts of a recorded build come to, over plain variables. Assumes nothing.
+-- What the parts of a recorded build come to, over plain variables.
 use Prim.Native.Nat.{ℕ}
 use mathlib.Core.Path.{_≡_, ap, _∙_}
 use mathlib.Core.Bool.{Bool, _&&_}
@@ -10,12 +10,12 @@ use Rattle.float32.specs.Key.{valueOf}
 use Rattle.configuration.specs.declared.BlockingStrategy.{BlockingStrategy}
 use Rattle.configuration.specs.declared.SummarizationStrategy.{SummarizationStrategy}
 use Rattle.documents.specs.Documents.{documents}
-use Rattle.building.specs.Built.{input}
-use Rattle.building.specs.Building.{InNumbers, numbers, inNumbers}
-use Rattle.short_list.specs.Short.{Made, madeShort}
-use Rattle.build_numbers.specs.Chosen.{blockingOf, summarizationOf}
-use Rattle.recorded.specs.Words.{long, sliceAt}
-use Rattle.expected.specs.Held.{held}
+use Rattle.build_meaning.specs.Built.{input}
+use Rattle.build_meaning.specs.Building.{InNumbers, numbers, inNumbers}
+use Rattle.build_small.specs.Short.{Made, madeShort}
+use Rattle.c_build.specs.Chosen.{blockingOf, summarizationOf}
+use Rattle.replay_words.specs.Words.{long, sliceAt}
+use Rattle.replay_expected.specs.Held.{held}
 use Rattle.replay.specs.Case.{blockingIn, summarizationIn, inputIn, longs, floats, oddKey, used, sizesHeld, numbersHeld, entriesHeld, agreed, agrees}
 
 -- ---- settings
@@ -40,8 +40,8 @@ pub sizes-by : (w : List ℕ) (z : InNumbers) {n p o c e s : ℕ} {us vs xs ys z
 sizes-by w z x p1 p2 p3 p4 p5 = rw (p1, p2, p3, p4, p5) (ap (sizesHeld w) x)
 
 -- ---- the whole
-pub agreed-by : (w : List ℕ) (m : Made) {a b c : Bool} → a ≡ sizesHeld w (inNumbers (m .answer)) → b ≡ numbersHeld w (m .output .postings) (m .output .offsets) (m .output .components) (m .output .componentOffsets)
-    → c ≡ entriesHeld w (m .output .ids) (m .output .codes) (m .output .minimums) (m .output .steps) → a && b && c ≡ agreed w m
+pub agreed-by : (w : List ℕ) (m : Made) {a b c : Bool} → a ≡ sizesHeld w (inNumbers (m .answer)) → b ≡ numbersHeld w (m .output .postings) (m .output .blockOffsets) (m .output .summaryComponents) (m .output .componentOffsets)
+    → c ≡ entriesHeld w (m .output .summaryIds) (m .output .codes) (m .output .minimums) (m .output .steps) → a && b && c ≡ agreed w m
 unfolding agreed
 agreed-by w m p q r = rw (p, q, r)
 

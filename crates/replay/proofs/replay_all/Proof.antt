@@ -1,4 +1,4 @@
--- `replay::replay_all` is safe and ends: each case takes one of the turns that are left. Assumes nothing.
+-- `replay::replay_all` is safe and ends: each case takes one of the turns that are left.
 use borrow.Author.Needs.{needs}
 use Rattle.replay.proofs.replay_all.Statement.{statement}
 use Rattle.replay.proofs.replay_all.Tie as tie

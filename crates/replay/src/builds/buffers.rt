@@ -1,14 +1,14 @@
 // What a recorded build leaves in the lent buffers, held against the original's answer.
-use building::BuildAnswer;
-use expected::same_bytes;
-use expected::same_floats;
-use expected::same_longs;
-use expected::same_shorts;
-use expected::same_words;
-use recorded::words_of;
+use build_meaning::BuildAnswer;
+use replay_expected::same_bytes;
+use replay_expected::same_floats;
+use replay_expected::same_longs;
+use replay_expected::same_shorts;
+use replay_expected::same_words;
+use replay_words::words_of;
 ghost use mathlib.Core.Path.{_≡_};
-ghost use Rattle.building.specs.Building.{outputs, inNumbers};
-ghost use Rattle.short_list.specs.Short.{made};
+ghost use Rattle.build_meaning.specs.Building.{outputs, inNumbers};
+ghost use Rattle.build_small.specs.Short.{made};
 ghost use Rattle.replay.specs.Case.{sizesHeld, numbersHeld, entriesHeld, agreed};
 
 // Whether the build was accepted, and as many numbers stand in front of the outputs as the original has.
@@ -20,7 +20,7 @@ fn sizes(w: &[u32], answer: BuildAnswer) -> bool
     let mut components = 0u64;
     let mut entries = 0u64;
     let mut summaries = 0u64;
-    let number = build_numbers::show_built(
+    let number = c_build::show_built(
         answer,
         &mut postings,
         &mut offsets,
@@ -75,7 +75,8 @@ pub(crate) fn agreed(
     minimums: &[f32; 64],
     steps: &[f32; 64],
 ) -> bool
-    ensures { λ r. ⌜ r ≡ agreed (now (w .entry)) (made answer (outputs (now (postings .entry)) (now (offsets .entry)) (now (components .entry)) (now («component_offsets» .entry)) (now (ids .entry)) (now (codes .entry)) (now (minimums .entry)) (now (steps .entry)))) ⌝ }
+    ensures { λ r. ⌜ r ≡ agreed (now (w .entry)) (made answer (outputs (now (postings .entry)) (now (offsets .entry)) (now (components .entry)) (now («component_offsets» .entry)) (now (ids .entry))
+        (now (codes .entry)) (now (minimums .entry)) (now (steps .entry)))) ⌝ }
 {
     sizes(w, answer)
         & numbers(w, postings, offsets, components, component_offsets)

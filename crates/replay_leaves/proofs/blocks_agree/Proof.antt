@@ -1,4 +1,4 @@
--- The answer and the offsets as blocking leaves them. Assumes nothing.
+-- The answer and the offsets as blocking leaves them.
 use Rattle.replay_leaves.proofs.Laws.{blocks-by}
 use borrow.Author.Needs.{needs}
 use Rattle.replay_leaves.proofs.blocks_agree.Statement.{statement}
@@ -35,7 +35,14 @@ same-longs-requires : tie.Need-same-longs-requires
 same-longs-requires c κs = search needs
 
 returns : tie.Need-returns
-returns c = blocks-by (c .before .before .before .before .before .before .before .before .before .before .args .w .now) (c .before .before .before .before .before .before .before .before .word .ensures) (c .before .before .before .before .before .before .before .word2 .ensures) (c .before .before .before .before .before .fixed-size-blocking .ensures) (c .before .before .before .words-of .ensures) (c .before .before .is-written .ensures) (c .same-longs .ensures)
+returns c =
+    let start : tie.Start = search needs in
+    let at-word : tie.After-word = search needs in
+    let at-word2 : tie.After-word2 = search needs in
+    let at-fixed-size-blocking : tie.After-fixed-size-blocking = search needs in
+    let at-words-of : tie.After-words-of = search needs in
+    blocks-by (start .args .w .now) (at-word .word .ensures) (at-word2 .word2 .ensures) (at-fixed-size-blocking .fixed-size-blocking .ensures) (at-words-of .words-of .ensures)
+    (c .before .before .is-written .ensures) (c .same-longs .ensures)
 
 pub blocks-agree-spec : {M : Type 1} → statement M
 blocks-agree-spec =

@@ -1,4 +1,4 @@
--- By the answer, and by what the keys are. Assumes nothing.
+-- By the answer, and by what the keys are.
 use Rattle.replay_leaves.proofs.Laws.{summary-by}
 use borrow.Author.Needs.{needs}
 use Rattle.replay_leaves.proofs.is_summary.Statement.{statement}

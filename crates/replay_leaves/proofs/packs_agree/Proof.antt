@@ -1,4 +1,4 @@
--- The numbers as the words have them. Assumes nothing.
+-- The numbers as the words have them.
 use Rattle.replay_leaves.proofs.Laws.{packs-by}
 use borrow.Author.Needs.{needs}
 use Rattle.replay_leaves.proofs.packs_agree.Statement.{statement}
@@ -20,7 +20,11 @@ is-packed-requires : tie.Need-is-packed-requires
 is-packed-requires c κs = search needs
 
 returns : tie.Need-returns
-returns c = packs-by (c .before .before .before .before .before .before .args .w .now) (c .before .before .before .before .long .ensures) (c .before .before .before .long2 .ensures) (c .before .before .pack .ensures) (c .before .long3 .ensures) (c .is-packed .ensures)
+returns c =
+    let start : tie.Start = search needs in
+    let at-long : tie.After-long = search needs in
+    let at-long2 : tie.After-long2 = search needs in
+    packs-by (start .args .w .now) (at-long .long .ensures) (at-long2 .long2 .ensures) (c .before .before .pack .ensures) (c .before .long3 .ensures) (c .is-packed .ensures)
 
 pub packs-agree-spec : {M : Type 1} → statement M
 packs-agree-spec =

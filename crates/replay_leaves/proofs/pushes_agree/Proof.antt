@@ -1,8 +1,51 @@
--- The verdict and the list as a push leaves them. Assumes nothing.
+-- The verdict and the list as a push leaves them.
 use Rattle.replay_leaves.proofs.Laws.{pushes-by}
 use borrow.Author.Needs.{needs}
 use Rattle.replay_leaves.proofs.pushes_agree.Statement.{statement}
 use Rattle.replay_leaves.proofs.pushes_agree.Tie as tie
+
+-- the places that the needs speak of, found by their types
+abbrev words-of3-of : tie.After-same-longs → tie.After-words-of3
+words-of3-of p = search needs
+
+abbrev word4-of : tie.After-words-of3 → tie.After-word4
+word4-of p = search needs
+
+abbrev number-of : tie.After-word4 → tie.After-number
+number-of p = search needs
+
+abbrev push-of : tie.After-number → tie.After-push
+push-of p = search needs
+
+abbrev word3-of : tie.After-push → tie.After-word3
+word3-of p = search needs
+
+abbrev new-of : tie.After-word3 → tie.After-new
+new-of p = search needs
+
+abbrev float-of : tie.After-new → tie.After-float
+float-of p = search needs
+
+abbrev word2-of : tie.After-float → tie.After-word2
+word2-of p = search needs
+
+abbrev word-of : tie.After-word2 → tie.After-word
+word-of p = search needs
+
+abbrev fill-floats-of : tie.After-word → tie.After-fill-floats
+fill-floats-of p = search needs
+
+abbrev words-of2-of : tie.After-fill-floats → tie.After-words-of2
+words-of2-of p = search needs
+
+abbrev fill-longs-of : tie.After-words-of2 → tie.After-fill-longs
+fill-longs-of p = search needs
+
+abbrev words-of-of : tie.After-fill-longs → tie.After-words-of
+words-of-of p = search needs
+
+abbrev start-of : tie.After-words-of → tie.Start
+start-of p = search needs
 
 words-of-requires : tie.Need-words-of-requires
 words-of-requires c κs = search needs
@@ -83,7 +126,26 @@ same-floats-requires : tie.Need-same-floats-requires
 same-floats-requires c κs = search needs
 
 returns : tie.Need-returns
-returns c = pushes-by (c .before .before .before .before .before .before .before .before .before .before .before .before .before .before .before .before .before .before .before .before .before .before .before .before .before .before .before .before .args .w .now) (c .before .before .before .before .before .before .before .before .before .before .before .before .before .before .before .before .before .before .before .before .before .before .before .before .before .before .words-of .ensures) (c .before .before .before .before .before .before .before .before .before .before .before .before .before .before .before .before .before .before .before .before .before .before .before .before .fill-longs .ensures) (c .before .before .before .before .before .before .before .before .before .before .before .before .before .before .before .before .before .before .before .before .before .before .words-of2 .ensures) (c .before .before .before .before .before .before .before .before .before .before .before .before .before .before .before .before .before .before .before .before .fill-floats .ensures) (c .before .before .before .before .before .before .before .before .before .before .before .before .before .before .before .before .before .before .word .ensures) (c .before .before .before .before .before .before .before .before .before .before .before .before .before .before .before .before .before .word2 .ensures) (c .before .before .before .before .before .before .before .before .before .before .before .before .before .before .before .before .float .ensures) (c .before .before .before .before .before .before .before .before .before .before .before .before .before .before .before .new .ensures) (c .before .before .before .before .before .before .before .before .before .before .before .before .before .before .word3 .ensures) (c .before .before .before .before .before .before .before .before .before .before .push .ensures) (c .before .before .before .before .before .before .before .number .ensures) (c .before .before .before .before .before .before .word4 .ensures) (c .before .before .before .before .words-of3 .ensures) (c .before .before .before .same-longs .ensures) (c .before .words-of4 .ensures) (c .same-floats .ensures)
+returns c =
+    let at-same-longs : tie.After-same-longs = search needs in
+    let at-words-of3 = words-of3-of at-same-longs in
+    let at-word4 = word4-of at-words-of3 in
+    let at-number = number-of at-word4 in
+    let at-push = push-of at-number in
+    let at-word3 = word3-of at-push in
+    let at-new = new-of at-word3 in
+    let at-float = float-of at-new in
+    let at-word2 = word2-of at-float in
+    let at-word = word-of at-word2 in
+    let at-fill-floats = fill-floats-of at-word in
+    let at-words-of2 = words-of2-of at-fill-floats in
+    let at-fill-longs = fill-longs-of at-words-of2 in
+    let at-words-of = words-of-of at-fill-longs in
+    let start = start-of at-words-of in
+    pushes-by (start .args .w .now) (at-words-of .words-of .ensures) (at-fill-longs .fill-longs .ensures) (at-words-of2 .words-of2 .ensures) (at-fill-floats .fill-floats .ensures)
+    (at-word .word .ensures) (at-word2 .word2 .ensures) (at-float .float .ensures) (at-new .new .ensures) (at-word3 .word3 .ensures) (at-push .push .ensures)
+    (at-number .number .ensures) (at-word4 .word4 .ensures) (at-words-of3 .words-of3 .ensures) (at-same-longs .same-longs .ensures) (c .before .words-of4 .ensures)
+    (c .same-floats .ensures)
 
 pub pushes-agree-spec : {M : Type 1} → statement M
 pushes-agree-spec =

@@ -1,4 +1,4 @@
--- The answer and the codes as quantizing leaves them. Assumes nothing.
+-- The answer and the codes as quantizing leaves them.
 use Rattle.replay_leaves.proofs.Laws.{quantizes-by}
 use borrow.Author.Needs.{needs}
 use Rattle.replay_leaves.proofs.quantizes_agree.Statement.{statement}
@@ -41,7 +41,16 @@ same-bytes-requires : tie.Need-same-bytes-requires
 same-bytes-requires c κs = search needs
 
 returns : tie.Need-returns
-returns c = quantizes-by (c .before .before .before .before .before .before .before .before .before .before .before .before .before .before .before .args .w .now) (c .before .before .before .before .before .before .before .before .before .before .before .before .fill-floats .ensures) (c .before .before .before .before .before .before .before .before .before .floats-of .ensures) (c .before .before .before .before .before .before .before .quantize .ensures) (c .before .before .before .before .before .word .ensures) (c .before .before .before .before .word2 .ensures) (c .before .words-of .ensures) (c .before .before .before .is-summary .ensures) (c .same-bytes .ensures)
+returns c =
+    let start : tie.Start = search needs in
+    let at-fill-floats : tie.After-fill-floats = search needs in
+    let at-floats-of : tie.After-floats-of = search needs in
+    let at-quantize : tie.After-quantize = search needs in
+    let at-word : tie.After-word = search needs in
+    let at-word2 : tie.After-word2 = search needs in
+    let at-is-summary : tie.After-is-summary = search needs in
+    quantizes-by (start .args .w .now) (at-fill-floats .fill-floats .ensures) (at-floats-of .floats-of .ensures) (at-quantize .quantize .ensures) (at-word .word .ensures)
+    (at-word2 .word2 .ensures) (c .before .words-of .ensures) (at-is-summary .is-summary .ensures) (c .same-bytes .ensures)
 
 pub quantizes-agree-spec : {M : Type 1} → statement M
 quantizes-agree-spec =

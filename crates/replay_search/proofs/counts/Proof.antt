@@ -1,4 +1,4 @@
--- Each number against its word. Assumes nothing.
+-- Each number against its word.
 use Rattle.replay_search.proofs.Laws.{counts-by}
 use borrow.Author.Needs.{needs}
 use Rattle.replay_search.proofs.counts.Statement.{statement}

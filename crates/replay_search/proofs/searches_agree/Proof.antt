@@ -1,4 +1,4 @@
--- The words as numbers of each kind. Assumes nothing.
+-- The words as numbers of each kind.
 use Rattle.replay_search.proofs.Laws.{agrees-by}
 use borrow.Author.Needs.{needs}
 use Rattle.replay_search.proofs.searches_agree.Statement.{statement}
@@ -44,7 +44,13 @@ searches-on-requires : tie.Need-searches-on-requires
 searches-on-requires c κs = search needs
 
 returns : tie.Need-returns
-returns c = agrees-by (c .before .before .before .before .before .before .before .before .before .before .before .before .before .before .before .before .before .before .args .w .now) (c .before .before .before .before .before .before .before .before .before .before .before .before .before .before .before .fill-longs .ensures) (c .before .before .before .before .before .before .before .before .before .before .before .before .fill-floats .ensures) (c .before .before .before .before .before .before .before .before .before .fill-shorts .ensures) (c .before .before .before .before .before .before .fill-bytes .ensures) (c .searches-on .ensures)
+returns c =
+    let start : tie.Start = search needs in
+    let at-fill-longs : tie.After-fill-longs = search needs in
+    let at-fill-floats : tie.After-fill-floats = search needs in
+    let at-fill-shorts : tie.After-fill-shorts = search needs in
+    let at-fill-bytes : tie.After-fill-bytes = search needs in
+    agrees-by (start .args .w .now) (at-fill-longs .fill-longs .ensures) (at-fill-floats .fill-floats .ensures) (at-fill-shorts .fill-shorts .ensures) (at-fill-bytes .fill-bytes .ensures) (c .searches-on .ensures)
 
 pub searches-agree-spec : {M : Type 1} → statement M
 searches-agree-spec =

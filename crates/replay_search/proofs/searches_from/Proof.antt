@@ -1,8 +1,63 @@
--- The slices as the words have them. Assumes nothing.
+-- The slices as the words have them.
 use Rattle.replay_search.proofs.Laws.{from-words}
 use borrow.Author.Needs.{needs}
 use Rattle.replay_search.proofs.searches_from.Statement.{statement}
 use Rattle.replay_search.proofs.searches_from.Tie as tie
+
+-- the places that the needs speak of, found by their types
+abbrev word3-of : tie.After-searches-with → tie.After-word3
+word3-of p = search needs
+
+abbrev value-of-key-of : tie.After-word3 → tie.After-value-of-key
+value-of-key-of p = search needs
+
+abbrev floats-of4-of : tie.After-value-of-key → tie.After-floats-of4
+floats-of4-of p = search needs
+
+abbrev floats-of3-of : tie.After-floats-of4 → tie.After-floats-of3
+floats-of3-of p = search needs
+
+abbrev bytes-of-of : tie.After-floats-of3 → tie.After-bytes-of
+bytes-of-of p = search needs
+
+abbrev shorts-of-of : tie.After-bytes-of → tie.After-shorts-of
+shorts-of-of p = search needs
+
+abbrev longs-of3-of : tie.After-shorts-of → tie.After-longs-of3
+longs-of3-of p = search needs
+
+abbrev words-of3-of : tie.After-longs-of3 → tie.After-words-of3
+words-of3-of p = search needs
+
+abbrev longs-of2-of : tie.After-words-of3 → tie.After-longs-of2
+longs-of2-of p = search needs
+
+abbrev longs-of-of : tie.After-longs-of2 → tie.After-longs-of
+longs-of-of p = search needs
+
+abbrev floats-of2-of : tie.After-longs-of → tie.After-floats-of2
+floats-of2-of p = search needs
+
+abbrev words-of2-of : tie.After-floats-of2 → tie.After-words-of2
+words-of2-of p = search needs
+
+abbrev float-of : tie.After-words-of2 → tie.After-float
+float-of p = search needs
+
+abbrev word2-of : tie.After-float → tie.After-word2
+word2-of p = search needs
+
+abbrev floats-of-of : tie.After-word2 → tie.After-floats-of
+floats-of-of p = search needs
+
+abbrev words-of-of : tie.After-floats-of → tie.After-words-of
+words-of-of p = search needs
+
+abbrev word-of : tie.After-words-of → tie.After-word
+word-of p = search needs
+
+abbrev start-of : tie.After-word → tie.Start
+start-of p = search needs
 
 word-requires : tie.Need-word-requires
 word-requires c κs = search needs
@@ -77,7 +132,32 @@ same-length-3 : tie.Need-same-length-3
 same-length-3 c = search needs
 
 returns : tie.Need-returns
-returns c = let a = c .before .before .before .before .before .before .before .before .before .before .before .before .before .before .before .before .before .before .before .before .before .before .before .before .before .before .before .before .before .before .before .before .before .before .before .args in from-words (a .w .now) (a .longs .now) (a .floats .now) (a .shorts .now) (a .bytes .now) (a .packed .now) (a .scores .now) (a .visits .now) (c .before .before .before .before .before .before .before .before .before .before .before .before .before .before .before .before .before .before .before .before .before .before .before .before .before .before .word .ensures) (c .before .before .before .before .before .before .before .before .before .before .before .before .before .before .before .before .before .before .before .before .before .before .before .before .before .words-of .ensures) (c .before .before .before .before .before .before .before .before .before .before .before .before .before .before .before .before .before .before .before .before .before .before .before .before .floats-of .ensures) (c .before .before .before .before .before .before .before .before .before .before .before .before .before .before .before .before .before .before .before .before .before .before .before .word2 .ensures) (c .before .before .before .before .before .before .before .before .before .before .before .before .before .before .before .before .before .before .before .before .before .before .float .ensures) (c .before .before .before .before .before .before .before .before .before .before .before .before .before .before .before .before .before .before .before .before .before .words-of2 .ensures) (c .before .before .before .before .before .before .before .before .before .before .before .before .before .before .before .before .before .before .before .before .floats-of2 .ensures) (c .before .before .before .before .before .before .before .before .before .before .before .before .before .before .before .before .before .before .before .longs-of .ensures) (c .before .before .before .before .before .before .before .before .before .before .before .before .before .before .before .before .before .before .longs-of2 .ensures) (c .before .before .before .before .before .before .before .before .before .before .before .before .before .before .before .before .before .words-of3 .ensures) (c .before .before .before .before .before .before .before .before .before .before .before .before .before .before .before .before .longs-of3 .ensures) (c .before .before .before .before .before .before .before .before .before .before .before .before .before .before .before .shorts-of .ensures) (c .before .before .before .before .before .before .before .before .before .before .before .before .before .before .bytes-of .ensures) (c .before .before .before .before .before .before .before .before .before .before .before .before .before .floats-of3 .ensures) (c .before .before .before .before .before .before .before .before .before .before .before .before .floats-of4 .ensures) (c .before .before .before .before .before .before .before .before .before .before .before .value-of-key .ensures) (c .before .before .before .before .before .before .before .before .before .before .word3 .ensures) (c .before .before .before .before .before .before .searches-with .ensures)
+returns c =
+    let at-searches-with : tie.After-searches-with = search needs in
+    let at-word3 = word3-of at-searches-with in
+    let at-value-of-key = value-of-key-of at-word3 in
+    let at-floats-of4 = floats-of4-of at-value-of-key in
+    let at-floats-of3 = floats-of3-of at-floats-of4 in
+    let at-bytes-of = bytes-of-of at-floats-of3 in
+    let at-shorts-of = shorts-of-of at-bytes-of in
+    let at-longs-of3 = longs-of3-of at-shorts-of in
+    let at-words-of3 = words-of3-of at-longs-of3 in
+    let at-longs-of2 = longs-of2-of at-words-of3 in
+    let at-longs-of = longs-of-of at-longs-of2 in
+    let at-floats-of2 = floats-of2-of at-longs-of in
+    let at-words-of2 = words-of2-of at-floats-of2 in
+    let at-float = float-of at-words-of2 in
+    let at-word2 = word2-of at-float in
+    let at-floats-of = floats-of-of at-word2 in
+    let at-words-of = words-of-of at-floats-of in
+    let at-word = word-of at-words-of in
+    let start = start-of at-word in
+    let a = start .args in
+    from-words (a .w .now) (a .longs .now) (a .floats .now) (a .shorts .now) (a .bytes .now) (a .packed .now) (a .scores .now) (a .visits .now) (at-word .word .ensures)
+    (at-words-of .words-of .ensures) (at-floats-of .floats-of .ensures) (at-word2 .word2 .ensures) (at-float .float .ensures) (at-words-of2 .words-of2 .ensures)
+    (at-floats-of2 .floats-of2 .ensures) (at-longs-of .longs-of .ensures) (at-longs-of2 .longs-of2 .ensures) (at-words-of3 .words-of3 .ensures)
+    (at-longs-of3 .longs-of3 .ensures) (at-shorts-of .shorts-of .ensures) (at-bytes-of .bytes-of .ensures) (at-floats-of3 .floats-of3 .ensures)
+    (at-floats-of4 .floats-of4 .ensures) (at-value-of-key .value-of-key .ensures) (at-word3 .word3 .ensures) (at-searches-with .searches-with .ensures)
 
 pub searches-from-spec : {M : Type 1} → statement M
 searches-from-spec =

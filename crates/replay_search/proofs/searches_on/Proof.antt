@@ -1,8 +1,30 @@
--- The kept list and the visits as the words have them. Assumes nothing.
+-- The kept list and the visits as the words have them.
 use Rattle.replay_search.proofs.Laws.{on-by}
 use borrow.Author.Needs.{needs}
 use Rattle.replay_search.proofs.searches_on.Statement.{statement}
 use Rattle.replay_search.proofs.searches_on.Tie as tie
+
+-- the places that the needs speak of, found by their types
+abbrev fill-bytes-of : tie.After-searches-from → tie.After-fill-bytes
+fill-bytes-of p = search needs
+
+abbrev words-of3-of : tie.After-fill-bytes → tie.After-words-of3
+words-of3-of p = search needs
+
+abbrev fill-floats-of : tie.After-words-of3 → tie.After-fill-floats
+fill-floats-of p = search needs
+
+abbrev words-of2-of : tie.After-fill-floats → tie.After-words-of2
+words-of2-of p = search needs
+
+abbrev fill-longs-of : tie.After-words-of2 → tie.After-fill-longs
+fill-longs-of p = search needs
+
+abbrev words-of-of : tie.After-fill-longs → tie.After-words-of
+words-of-of p = search needs
+
+abbrev start-of : tie.After-words-of → tie.Start
+start-of p = search needs
 
 words-of-requires : tie.Need-words-of-requires
 words-of-requires c κs = search needs
@@ -44,7 +66,17 @@ searches-from-requires : tie.Need-searches-from-requires
 searches-from-requires c κs = search needs
 
 returns : tie.Need-returns
-returns c = on-by (c .before .before .before .before .before .before .before .before .before .before .before .before .before .before .before .before .before .before .before .before .before .before .before .before .args .w .now) _ (c .before .before .before .before .before .before .before .before .before .before .before .before .before .before .before .before .before .before .words-of .ensures) (c .before .before .before .before .before .before .before .before .before .before .before .before .before .before .before .before .fill-longs .ensures) (c .before .before .before .before .before .before .before .before .before .before .before .before .before .before .words-of2 .ensures) (c .before .before .before .before .before .before .before .before .before .before .before .before .fill-floats .ensures) (c .before .before .before .before .before .before .before .before .before .before .words-of3 .ensures) (c .before .before .before .before .before .before .before .before .fill-bytes .ensures) (c .before .before .before .searches-from .ensures)
+returns c =
+    let at-searches-from : tie.After-searches-from = search needs in
+    let at-fill-bytes = fill-bytes-of at-searches-from in
+    let at-words-of3 = words-of3-of at-fill-bytes in
+    let at-fill-floats = fill-floats-of at-words-of3 in
+    let at-words-of2 = words-of2-of at-fill-floats in
+    let at-fill-longs = fill-longs-of at-words-of2 in
+    let at-words-of = words-of-of at-fill-longs in
+    let start = start-of at-words-of in
+    on-by (start .args .w .now) _ (at-words-of .words-of .ensures) (at-fill-longs .fill-longs .ensures) (at-words-of2 .words-of2 .ensures) (at-fill-floats .fill-floats .ensures)
+    (at-words-of3 .words-of3 .ensures) (at-fill-bytes .fill-bytes .ensures) (at-searches-from .searches-from .ensures)
 
 pub searches-on-spec : {M : Type 1} → statement M
 searches-on-spec =

@@ -1,8 +1,15 @@
--- What the parts say of what the search left. Assumes nothing.
+-- What the parts say of what the search left.
 use Rattle.replay_search.proofs.Laws.{found-by}
 use borrow.Author.Needs.{needs}
 use Rattle.replay_search.proofs.searches_with.Statement.{statement}
 use Rattle.replay_search.proofs.searches_with.Tie as tie
+
+-- the places that the needs speak of, found by their types
+abbrev find-of : tie.After-counts → tie.After-find
+find-of p = search needs
+
+abbrev start-of : tie.After-find → tie.Start
+start-of p = search needs
 
 slice-aggregate-find : tie.Need-slice-aggregate-find
 slice-aggregate-find c = search needs
@@ -35,7 +42,11 @@ same-length-3 : tie.Need-same-length-3
 same-length-3 c = search needs
 
 returns : tie.Need-returns
-returns c = found-by (c .before .before .before .before .before .before .before .before .before .before .before .before .before .before .before .before .before .before .before .before .before .before .before .before .before .before .before .before .before .before .before .before .before .before .before .before .before .before .before .before .before .args .w .now) _ _ (c .before .before .before .before .before .before .before .before .before .before .before .before .before .before .before .find .ensures) (c .before .before .before .before .before .before .counts .ensures) (c .holds .ensures)
+returns c =
+    let at-counts : tie.After-counts = search needs in
+    let at-find = find-of at-counts in
+    let start = start-of at-find in
+    found-by (start .args .w .now) _ _ (at-find .find .ensures) (at-counts .counts .ensures) (c .holds .ensures)
 
 pub searches-with-spec : {M : Type 1} → statement M
 searches-with-spec =

@@ -1,8 +1,8 @@
--- `search::admit`: the tests' results in the order of the refusals. Assumes nothing.
+-- `search::admit`: the tests' results in the order of the refusals.
 use lib.Ieee.{nan}
 use Rattle.kept_list.specs.Lent.{lent}
-use Rattle.quantized_summary.specs.Layout.{arrays}
-use Rattle.probing.specs.Probed.{terms, lends}
+use Rattle.sparse_scores.specs.Layout.{arrays}
+use Rattle.search_probe.specs.Probed.{terms, lends}
 use Rattle.search.specs.Searched.{question}
 use Rattle.search.proofs.Tops.{admitted-by}
 use borrow.Author.Needs.{needs}
@@ -25,7 +25,15 @@ judge-requires : tie.Need-judge-requires
 judge-requires c κs = search needs
 
 returns : tie.Need-returns
-returns c = let a = c .before .before .before .before .before .before .before .before .before .before .before .before .before .before .before .before .before .before .before .before .args in admitted-by (question (a .k) nan (terms (a .asked .now) (a .weights .now) (a .components .now) (a .values .now)) (a .postings .now) (a .blocks .now) (arrays (a .present .now) (a .offsets .now) (a .ids .now) (a .codes .now) (a .minimums .now) (a .steps .now))) (lends (lent (a .length) (a .packed .now) (a .scores .now)) (a .visits .now)) (a .room) _ _ _ _ _ (c .before .before .before .before .slices-hold .ensures) (c .before .before .before .is-well-formed .ensures) (c .before .before .is-well-kept .ensures) (c .before .has-room .ensures) (c .judge .ensures)
+returns c =
+    let start : tie.Start = search needs in
+    let at-slices-hold : tie.After-slices-hold = search needs in
+    let at-is-well-formed : tie.After-is-well-formed = search needs in
+    let a = start .args in
+    admitted-by (question (a .k) nan (terms (a .query-components .now) (a .query-values .now) (a .components .now) (a .values .now)) (a .postings .now) (a .block-offsets .now)
+    (arrays (a .summary-components .now) (a .component-offsets .now) (a .summary-ids .now) (a .codes .now) (a .minimums .now) (a .steps .now)))
+    (lends (lent (a .length) (a .packed .now) (a .scores .now)) (a .visits .now)) (a .room) _ _ _ _ _ (at-slices-hold .slices-hold .ensures)
+    (at-is-well-formed .is-well-formed .ensures) (c .before .before .is-well-kept .ensures) (c .before .has-room .ensures) (c .judge .ensures)
 
 pub admit-spec : {M : Type 1} → statement M
 admit-spec =

@@ -1,4 +1,4 @@
--- `search::judge`: at each return the first test that fails gives the refusal. Assumes nothing.
+-- `search::judge`: at each return the first test that fails gives the refusal.
 use Rattle.search.proofs.judge.Statement.{statement}
 use Rattle.search.proofs.judge.Tie as tie
 

@@ -151,8 +151,8 @@ mod sides {
             packed: vec![0; k as usize],
             kept_scores: vec![0.0; k as usize],
             visits: vec![0; s.ours.components.len() + 1],
-            scores: vec![0.0; list.minimums.len()],
-            order: vec![0; list.minimums.len()],
+            block_scores: vec![0.0; list.minimums.len()],
+            block_order: vec![0; list.minimums.len()],
         };
         let (mut ours, mut theirs, mut rounds) = (0.0, 0.0, 0);
         let (mut evaluated, mut skipped) = (0, 0);

@@ -63,8 +63,8 @@ fn main() {
             packed: vec![0; 10],
             kept_scores: vec![0.0; 10],
             visits: vec![0; input.components.len() + 1],
-            scores: vec![0.0; 1],
-            order: vec![],
+            block_scores: vec![0.0; 1],
+            block_order: vec![],
         };
         let mut scores = vec![0.0; pages as usize];
         let (mut ours, mut theirs, mut rounds) = (0.0, 0.0, 0u64);

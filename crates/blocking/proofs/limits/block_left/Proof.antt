@@ -1,4 +1,4 @@
--- `blocking::limits::block_left` meets its contract: its constant is the limit. Assumes nothing.
+-- `blocking::limits::block_left` meets its contract: its constant is the limit.
 use borrow.Author.Needs.{needs}
 use Rattle.blocking.specs.Limits.{blockLimit}
 use Rattle.blocking.proofs.limits.block_left.Statement.{statement}

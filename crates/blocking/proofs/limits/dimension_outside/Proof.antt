@@ -1,4 +1,4 @@
--- `blocking::limits::dimension_outside` meets its contract. Assumes nothing.
+-- `blocking::limits::dimension_outside` meets its contract.
 use borrow.Author.Tests.{eq-eqb, ne-eqb}
 use Rattle.blocking.specs.Limits.{dimensionLimit}
 use Rattle.blocking.proofs.limits.dimension_outside.Statement.{statement}

@@ -1,4 +1,4 @@
--- `blocking::limits::list_too_long` meets its contract: its constant is the limit. Assumes nothing.
+-- `blocking::limits::list_too_long` meets its contract: its constant is the limit.
 use borrow.Author.Needs.{needs}
 use Rattle.blocking.specs.Limits.{listLimit}
 use Rattle.blocking.proofs.limits.list_too_long.Statement.{statement}

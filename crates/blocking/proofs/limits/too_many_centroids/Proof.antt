@@ -1,4 +1,4 @@
--- `blocking::limits::too_many_centroids` meets its contract: its constant is the limit. Assumes nothing.
+-- `blocking::limits::too_many_centroids` meets its contract: its constant is the limit.
 use borrow.Author.Needs.{needs}
 use Rattle.blocking.specs.Limits.{centroidLimit}
 use Rattle.blocking.proofs.limits.too_many_centroids.Statement.{statement}

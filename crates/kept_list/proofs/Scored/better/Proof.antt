@@ -1,4 +1,4 @@
--- `Scored::better` meets its contract: the keys are those of the definition. Assumes nothing.
+-- `Scored::better` meets its contract: the keys are those of the definition.
 use borrow.Author.Needs.{needs}
 use Rattle.kept_list.specs.Entry.{better}
 use Rattle.kept_list.proofs.Scored.better.Statement.{statement}

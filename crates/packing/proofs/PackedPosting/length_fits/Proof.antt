@@ -1,4 +1,4 @@
--- `PackedPosting::length_fits` meets its contract: its constant is the limit. Assumes nothing.
+-- `PackedPosting::length_fits` meets its contract: its constant is the limit.
 use borrow.Author.Needs.{needs}
 use Rattle.packing.specs.Packing.{lengthLimit}
 use Rattle.packing.proofs.PackedPosting.length_fits.Statement.{statement}

@@ -1,8 +1,8 @@
--- `PackedPosting::pack` meets its contract: each answer is the one of the tests that led to it. Assumes nothing.
+-- `PackedPosting::pack` meets its contract: each answer is the one of the tests that led to it.
 use borrow.Author.Needs.{needs}
 use mathlib.Core.Path.{sym}
 use Rattle.packing.specs.Packing.{startLimit, lengthLimit, packOf}
-use Rattle.packing.specs.Laws.{start-refused, length-refused, range-packed}
+use Rattle.packing.specs.Laws.Packing.{start-refused, length-refused, range-packed}
 use Rattle.packing.proofs.PackedPosting.pack.Statement.{statement}
 use Rattle.packing.proofs.PackedPosting.pack.Tie as tie
 

@@ -1,4 +1,4 @@
--- `PackedPosting::start_fits` meets its contract: its constant is the limit. Assumes nothing.
+-- `PackedPosting::start_fits` meets its contract: its constant is the limit.
 use borrow.Author.Needs.{needs}
 use Rattle.packing.specs.Packing.{startLimit}
 use Rattle.packing.proofs.PackedPosting.start_fits.Statement.{statement}

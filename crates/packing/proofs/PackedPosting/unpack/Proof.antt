@@ -1,4 +1,4 @@
--- `PackedPosting::unpack` meets its contract by computation. Assumes nothing.
+-- `PackedPosting::unpack` meets its contract by computation.
 use borrow.Author.Needs.{needs}
 use Rattle.packing.specs.Packing.{startOf, lengthOf}
 use Rattle.packing.proofs.PackedPosting.unpack.Statement.{statement}

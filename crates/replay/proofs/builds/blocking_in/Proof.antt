@@ -1,4 +1,4 @@
--- The settings as the words have them. Assumes nothing.
+-- The settings as the words have them.
 use Rattle.replay.proofs.builds.Laws.{blocking-by}
 use borrow.Author.Needs.{needs}
 use Rattle.replay.proofs.builds.blocking_in.Statement.{statement}
@@ -23,7 +23,12 @@ blocking-of-requires : tie.Need-blocking-of-requires
 blocking-of-requires c κs = search needs
 
 returns : tie.Need-returns
-returns c = blocking-by (c .before .before .before .before .before .before .before .args .w .now) (c .before .before .before .before .before .long .ensures) (c .before .before .before .before .long2 .ensures) (c .before .before .before .float .ensures) (c .before .before .long3 .ensures) (c .before .long4 .ensures) (c .blocking-of .ensures)
+returns c =
+    let start : tie.Start = search needs in
+    let at-long : tie.After-long = search needs in
+    let at-long2 : tie.After-long2 = search needs in
+    let at-float : tie.After-float = search needs in
+    blocking-by (start .args .w .now) (at-long .long .ensures) (at-long2 .long2 .ensures) (at-float .float .ensures) (c .before .before .long3 .ensures) (c .before .long4 .ensures) (c .blocking-of .ensures)
 
 pub blocking-in-spec : {M : Type 1} → statement M
 blocking-in-spec =

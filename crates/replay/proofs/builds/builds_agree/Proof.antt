@@ -1,4 +1,4 @@
--- The pools as the words have them. Assumes nothing.
+-- The pools as the words have them.
 use Rattle.replay.proofs.builds.Laws.{agrees-by}
 use borrow.Author.Needs.{needs}
 use Rattle.replay.proofs.builds.builds_agree.Statement.{statement}
@@ -26,7 +26,11 @@ builds-from-requires : tie.Need-builds-from-requires
 builds-from-requires c κs = search needs
 
 returns : tie.Need-returns
-returns c = agrees-by (c .before .before .before .before .before .before .before .before .before .before .args .w .now) _ _ (c .before .before .before .before .before .before .before .fill-longs .ensures) (c .before .before .before .before .fill-floats .ensures) (c .builds-from .ensures)
+returns c =
+    let start : tie.Start = search needs in
+    let at-fill-longs : tie.After-fill-longs = search needs in
+    let at-fill-floats : tie.After-fill-floats = search needs in
+    agrees-by (start .args .w .now) _ _ (at-fill-longs .fill-longs .ensures) (at-fill-floats .fill-floats .ensures) (c .builds-from .ensures)
 
 pub builds-agree-spec : {M : Type 1} → statement M
 builds-agree-spec =

@@ -1,4 +1,4 @@
--- The slices as the words have them. Assumes nothing.
+-- The slices as the words have them.
 use Rattle.replay.proofs.builds.Laws.{from-words}
 use borrow.Author.Needs.{needs}
 use Rattle.replay.proofs.builds.builds_from.Statement.{statement}
@@ -38,7 +38,19 @@ builds-with-requires : tie.Need-builds-with-requires
 builds-with-requires c κs = search needs
 
 returns : tie.Need-returns
-returns c = let a = c .before .before .before .before .before .before .before .before .before .before .before .before .before .args in from-words (a .w .now) (a .longs .now) (a .floats .now) (c .before .before .before .before .before .before .before .before .before .word .ensures) (c .before .before .before .before .before .before .before .before .blocking-in .ensures) (c .before .before .before .before .before .before .before .summarization-in .ensures) (c .before .before .before .before .before .before .value-of-key .ensures) (c .before .before .before .before .before .longs-of .ensures) (c .before .before .before .before .words-of .ensures) (c .before .before .before .floats-of .ensures) (c .before .before .longs-of2 .ensures) (c .before .longs-of3 .ensures) (c .builds-with .ensures)
+returns c =
+    let start : tie.Start = search needs in
+    let at-word : tie.After-word = search needs in
+    let at-blocking-in : tie.After-blocking-in = search needs in
+    let at-summarization-in : tie.After-summarization-in = search needs in
+    let at-value-of-key : tie.After-value-of-key = search needs in
+    let at-longs-of : tie.After-longs-of = search needs in
+    let at-words-of : tie.After-words-of = search needs in
+    let at-floats-of : tie.After-floats-of = search needs in
+    let a = start .args in
+    from-words (a .w .now) (a .longs .now) (a .floats .now) (at-word .word .ensures) (at-blocking-in .blocking-in .ensures) (at-summarization-in .summarization-in .ensures)
+    (at-value-of-key .value-of-key .ensures) (at-longs-of .longs-of .ensures) (at-words-of .words-of .ensures) (at-floats-of .floats-of .ensures)
+    (c .before .before .longs-of2 .ensures) (c .before .longs-of3 .ensures) (c .builds-with .ensures)
 
 pub builds-from-spec : {M : Type 1} → statement M
 builds-from-spec =

@@ -1,9 +1,13 @@
--- What the parts say of what the build left. Assumes nothing.
+-- What the parts say of what the build left.
 use Rattle.replay.specs.Case.{used}
 use Rattle.replay.proofs.builds.Laws.{agreed-of}
 use borrow.Author.Needs.{needs}
 use Rattle.replay.proofs.builds.builds_with.Statement.{statement}
 use Rattle.replay.proofs.builds.builds_with.Tie as tie
+
+-- the places that the needs speak of, found by their types
+abbrev start-of : tie.After-build → tie.Start
+start-of p = search needs
 
 slice-aggregate-build : tie.Need-slice-aggregate-build
 slice-aggregate-build c = search needs
@@ -37,7 +41,10 @@ agreed-requires c κs = search needs
 
 returns : tie.Need-returns
 unfolding used
-returns c = agreed-of (c .before .before .before .before .before .before .before .before .before .before .before .before .before .before .before .before .before .before .before .before .before .before .before .before .before .before .before .before .before .before .before .before .args .w .now) _ _ (c .agreed .ensures) (c .before .before .before .before .before .before .before .before .before .before .before .before .before .before .before .before .before .build .ensures)
+returns c =
+    let at-build : tie.After-build = search needs in
+    let start = start-of at-build in
+    agreed-of (start .args .w .now) _ _ (c .agreed .ensures) (at-build .build .ensures)
 
 pub builds-with-spec : {M : Type 1} → statement M
 builds-with-spec =

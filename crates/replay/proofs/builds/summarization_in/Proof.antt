@@ -1,4 +1,4 @@
--- The settings as the words have them. Assumes nothing.
+-- The settings as the words have them.
 use Rattle.replay.proofs.builds.Laws.{summarization-by}
 use borrow.Author.Needs.{needs}
 use Rattle.replay.proofs.builds.summarization_in.Statement.{statement}

@@ -1,4 +1,4 @@
--- `replay::record::expand` is safe and ends: a word is written at each turn. Assumes nothing.
+-- `replay::record::expand` is safe and ends: a word is written at each turn.
 use mathlib.Core.Path.{_≡_, refl}
 use Prim.Native.Nat.{_-_}
 use lib.ListN.{length}

@@ -1,4 +1,4 @@
--- `replay::record::read` is safe: what it lends is as long as what it asks for. Assumes nothing.
+-- `replay::record::read` is safe: what it lends is as long as what it asks for.
 use mathlib.Core.Path.{sym}
 use native.Mathlib.Omega.{arith}
 use lib.Seq.{length-take-le}

@@ -26,8 +26,8 @@ pub fn search_case(r: &mut Random) -> Option<Vec<u32>> {
         packed: entries.iter().map(|e| e.0).chain([0; 8]).take(8).collect(),
         kept_scores: entries.iter().map(|e| e.1).chain([0.0; 8]).take(8).collect(),
         visits: visits.clone(),
-        scores: vec![0.0; list.minimums.len()],
-        order: vec![0; list.minimums.len()],
+        block_scores: vec![0.0; list.minimums.len()],
+        block_order: vec![0; list.minimums.len()],
     };
     let input = SearchInput { query_components, query_values, k, factor, components: g.documents.components.clone(), values: g.documents.values.clone(), list, sorted };
     let Found::Done { evaluated, skipped, .. } = search(Slip::None, &input, &mut b) else { return None };
@@ -56,8 +56,8 @@ pub fn search_case(r: &mut Random) -> Option<Vec<u32>> {
         words(&b.packed)?,
         keys(&b.kept_scores),
         bytes(&b.visits),
-        keys(&b.scores),
-        if sorted { words(&b.order)? } else { Vec::new() },
+        keys(&b.block_scores),
+        if sorted { words(&b.block_order)? } else { Vec::new() },
     ];
     let head = [5, sorted as u32, k as u32, key(factor), entries.len() as u32, b.length as u32, evaluated as u32, skipped as u32];
     Some([&head[..], &laid(29, &slices), &slices.concat()].concat())
@@ -75,6 +75,6 @@ fn original_agrees(g: &BuildInput, input: &SearchInput, entries: &[(u64, f32)], 
     let n = b.length as usize;
     found.iter().map(|e| (e.0, e.1.to_bits())).eq((0..n).map(|i| (b.packed[i], b.kept_scores[i].to_bits())))
         && (0..b.visits.len()).all(|i| kept.visited.contains(&i) == (b.visits[i] != 0))
-        && bits(&theirs.scores(&input.query_components, &input.query_values)) == bits(&b.scores)
+        && bits(&theirs.scores(&input.query_components, &input.query_values)) == bits(&b.block_scores)
         && evaluated as usize == kept.visited.len() - before.len()
 }

@@ -1,4 +1,4 @@
-//! A case as a row of words (crates/recorded), and as it lies in the file (crates/replay/src/record.rt).
+//! A case as a row of words (crates/replay_words), and as it lies in the file (crates/replay/src/record.rt).
 
 /// The words that a case may have.
 const WORDS: usize = 1024;

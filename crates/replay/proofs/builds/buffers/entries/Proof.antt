@@ -1,4 +1,4 @@
--- Each buffer against its slice. Assumes nothing.
+-- Each buffer against its slice.
 use mathlib.Core.List.{map}
 use Rattle.float32.specs.Key.{keyOf}
 use Rattle.replay.specs.Case.{oddKey}
@@ -32,7 +32,18 @@ same-floats-requires-2 : tie.Need-same-floats-requires-2
 same-floats-requires-2 c κs = search needs
 
 returns : tie.Need-returns
-returns c = let a = c .before .before .before .before .before .before .before .before .before .before .before .before .before .args in four (held-by (a .ids .now) 9 (c .before .before .before .before .before .before .before .words-of .ensures) (c .before .before .before .before .before .before .same-shorts .ensures)) (held-by (a .codes .now) 10 (c .before .before .before .before .before .words-of2 .ensures) (c .before .before .before .before .same-bytes .ensures)) (held-by (map keyOf (a .minimums .now)) oddKey (c .before .before .before .words-of3 .ensures) (c .before .before .same-floats .ensures)) (held-by (map keyOf (a .steps .now)) oddKey (c .before .words-of4 .ensures) (c .same-floats2 .ensures))
+returns c =
+    let start : tie.Start = search needs in
+    let at-words-of : tie.After-words-of = search needs in
+    let at-same-shorts : tie.After-same-shorts = search needs in
+    let at-words-of2 : tie.After-words-of2 = search needs in
+    let at-same-bytes : tie.After-same-bytes = search needs in
+    let at-words-of3 : tie.After-words-of3 = search needs in
+    let a = start .args in
+    four (held-by (a .ids .now) 9 (at-words-of .words-of .ensures) (at-same-shorts .same-shorts .ensures))
+    (held-by (a .codes .now) 10 (at-words-of2 .words-of2 .ensures) (at-same-bytes .same-bytes .ensures))
+    (held-by (map keyOf (a .minimums .now)) oddKey (at-words-of3 .words-of3 .ensures) (c .before .before .same-floats .ensures))
+    (held-by (map keyOf (a .steps .now)) oddKey (c .before .words-of4 .ensures) (c .same-floats2 .ensures))
 
 pub entries-spec : {M : Type 1} → statement M
 entries-spec =

@@ -1,4 +1,4 @@
--- The answer in numbers, each size against the length of its slice. Assumes nothing.
+-- The answer in numbers, each size against the length of its slice.
 use Rattle.replay.proofs.builds.Laws.{sizes-by}
 use borrow.Author.Needs.{needs}
 use Rattle.replay.proofs.builds.buffers.sizes.Statement.{statement}

@@ -1,3 +1,0 @@
-pub mod Admission
-pub mod Answers
-pub mod Cases

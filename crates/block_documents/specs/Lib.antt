@@ -1,4 +1,0 @@
-pub mod Blocks
-pub mod Cuts
-pub mod Kept
-pub mod Steps

@@ -1,0 +1,4 @@
+pub mod Greatest
+pub mod Made
+pub mod Shown
+pub mod Cases

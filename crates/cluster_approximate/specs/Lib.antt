@@ -1,0 +1,2 @@
+pub mod Approximate
+pub mod Laws

@@ -1,0 +1,4 @@
+pub mod Clusters
+pub mod Ranks
+pub mod Promises
+pub mod Laws

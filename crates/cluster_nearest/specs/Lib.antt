@@ -1,0 +1,4 @@
+pub mod Nearest
+pub mod Scored
+pub mod Keys
+pub mod Laws

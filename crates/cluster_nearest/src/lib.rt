@@ -1,0 +1,183 @@
+// Which centroid takes a document: by all of its terms and the first greatest score above 0, or by its largest terms and the last
+// greatest score. Scores come through the centroids' index; those of the largest terms are taken in crate cluster_slots. Nothing is
+// assumed of the slices.
+use cells::shorter;
+ghost use mathlib.Core.Path.{_≡_};
+ghost use mathlib.Core.List.{map};
+ghost use Prim.Native.Nat.{min};
+ghost use lib.ListN.{length, take};
+ghost use lib.Seq.{sets};
+ghost use Rattle.documents.specs.Documents.{documents, terms, paired, largest};
+ghost use Rattle.documents.specs.TermKeys.{termKey, termOf};
+ghost use Rattle.cluster_nearest.specs.Scored.{scoresOf};
+ghost use Rattle.cluster_nearest.specs.Keys.{keysOf};
+ghost use Rattle.cluster_nearest.specs.Nearest.{ifGreater, ifNoLess, firstAbove, lastNoLess};
+use number_types::DocumentId;
+
+// A centroid, by its document, with a document's score.
+pub struct Candidate {
+    pub centroid: DocumentId,
+    pub score: f32,
+}
+
+// The best so far, or another one if its score is greater.
+fn if_greater(best: Candidate, other: Candidate) -> Candidate
+    ensures { λ r. ⌜ r ≡ ifGreater best other ⌝ }
+{
+    if best.score < other.score {
+        other
+    } else {
+        best
+    }
+}
+
+// The best so far, or another one unless its score is less by total order.
+fn if_no_less(best: Candidate, other: Candidate) -> Candidate
+    ensures { λ r. ⌜ r ≡ ifNoLess best other ⌝ }
+{
+    if float32::at_most(best.score, other.score) {
+        other
+    } else {
+        best
+    }
+}
+
+// The first centroid with the greatest score above 0, else the first centroid: 0 where there is none.
+pub fn first_above_zero(centroids: &[u64], sums: &[f32]) -> DocumentId
+    ensures { λ r. ⌜ r .0 ≡ firstAbove (now (centroids .entry)) (now (sums .entry)) ⌝ }
+{
+    if centroids.len() == 0 {
+        return DocumentId(0);
+    }
+    let mut best = Candidate {
+        centroid: DocumentId(centroids[0]),
+        score: 0.0,
+    };
+    let mut i = 0usize;
+    while i < centroids.len() {
+        if sums.len() <= i {
+            return best.centroid;
+        }
+        best = if_greater(
+            best,
+            Candidate {
+                centroid: DocumentId(centroids[i]),
+                score: sums[i],
+            },
+        );
+        i += 1;
+    }
+    best.centroid
+}
+
+// The last centroid with the greatest score; another document's id where there is none.
+pub fn last_greatest(otherwise: DocumentId, centroids: &[u64], sums: &[f32]) -> DocumentId
+    ensures { λ r. ⌜ r .0 ≡ lastNoLess (otherwise .0) (now (centroids .entry)) (now (sums .entry)) ⌝ }
+{
+    if centroids.len() == 0 {
+        return otherwise;
+    }
+    if sums.len() == 0 {
+        return otherwise;
+    }
+    let mut best = Candidate {
+        centroid: DocumentId(centroids[0]),
+        score: sums[0],
+    };
+    let mut i = 1usize;
+    while i < centroids.len() {
+        if sums.len() <= i {
+            return best.centroid;
+        }
+        best = if_no_less(
+            best,
+            Candidate {
+                centroid: DocumentId(centroids[i]),
+                score: sums[i],
+            },
+        );
+        i += 1;
+    }
+    best.centroid
+}
+
+// The centroid that takes a document by all of its terms. The scores by slot stay in their slice.
+pub fn nearest_to(
+    offsets: &[u64],
+    components: &[u32],
+    values: &[f32],
+    id: DocumentId,
+    centroids: &[u64],
+    starts: &[u64],
+    slots: &[u64],
+    weights: &[f32],
+    sums: &mut [f32],
+) -> DocumentId
+    ensures sums { λ r. ⌜ now (sums .exit) ≡ scoresOf (documents (now (starts .entry)) (now (slots .entry)) (now (weights .entry))) (length (now (sums .entry)))
+        (terms (documents (now (offsets .entry)) (now (components .entry)) (now (values .entry))) (id .0)) ⌝ }
+    ensures answer { λ r. ⌜ r .0 ≡ firstAbove (now (centroids .entry)) (now (sums .exit)) ⌝ }
+{
+    clearing::clear_f32(sums);
+    let p = cluster_index::places_of(offsets, components, values, id);
+    let from = p.from;
+    let to = p.to;
+    cluster_index::add_terms(
+        starts,
+        slots,
+        weights,
+        &components[from..to],
+        &values[from..to],
+        sums,
+    );
+    first_above_zero(centroids, sums)
+}
+
+// Writes the key of each term to the front of a slice; those that find no place are left out.
+fn write_keys(components: &[u32], values: &[f32], keys: &mut [u64])
+    ensures { λ _. ⌜ now (keys .exit) ≡ sets (now (keys .entry)) 0 (map termKey (paired (now (components .entry)) (now (values .entry)))) ⌝ }
+{
+    let mut i = 0usize;
+    while i < components.len() {
+        if values.len() <= i {
+            return;
+        }
+        let key = term_keys::term_key(components[i], values[i]);
+        cells::put_u64(keys, i, key);
+        i += 1;
+    }
+}
+
+// Leaves the keys of the terms, the largest first, at the front of a slice, and answers how many these are; terms that find no place
+// are left out.
+fn sort_keys(components: &[u32], values: &[f32], keys: &mut [u64]) -> usize
+    ensures answer { λ r. ⌜ r ≡ min (length (paired (now (components .entry)) (now (values .entry)))) (length (now (keys .entry))) ⌝ }
+    ensures keys { λ r. ⌜ now (keys .exit) ≡ keysOf (now (keys .entry)) (paired (now (components .entry)) (now (values .entry))) ⌝ }
+{
+    write_keys(components, values, keys);
+    let terms = documents::term_count(components, values);
+    let n = shorter(terms, keys.len());
+    sort::sort(&mut keys[..n]);
+    n
+}
+
+// Leaves the keys of a document's terms, the largest first, at the front of a slice, and answers how many of them are within a cut: these
+// stand for so many of its largest terms. Terms that find no place are left out.
+pub fn largest_keys(
+    offsets: &[u64],
+    components: &[u32],
+    values: &[f32],
+    id: DocumentId,
+    cut: u64,
+    keys: &mut [u64],
+) -> usize
+    ensures { λ r. ⌜ (now (keys .exit) ≡ keysOf (now (keys .entry)) (terms (documents (now (offsets .entry)) (now (components .entry)) (now (values .entry))) (id .0)))
+        × (r ≡ min cut (min (length (terms (documents (now (offsets .entry)) (now (components .entry)) (now (values .entry))) (id .0))) (length (now (keys .entry)))))
+        × (map termOf (take r (now (keys .exit))) ≡ largest cut (take (length (now (keys .entry))) (terms (documents (now (offsets .entry)) (now (components .entry))
+        (now (values .entry))) (id .0)))) ⌝ }
+{
+    let p = cluster_index::places_of(offsets, components, values, id);
+    let from = p.from;
+    let to = p.to;
+    let n = sort_keys(&components[from..to], &values[from..to], keys);
+    shorter(cut as usize, n)
+}

@@ -1,0 +1,3 @@
+pub mod Clustered
+pub mod Enough
+pub mod Uncut

@@ -1,9 +1,0 @@
-pub mod Clusters
-pub mod Ordered
-pub mod Ranks
-pub mod Canonical
-pub mod Members
-pub mod Search
-pub mod Pairs
-pub mod Promises
-pub mod Cases

@@ -1,0 +1,91 @@
+-- Terms that hold: each value is bounded, each component has one value at most, and a dot product of two such lists is a number.
+--
+use Prim.Native.Nat.{ℕ, _*_, _^_, _≤_, _<_}
+use native.Mathlib.Omega.{arith}
+use mathlib.Core.Path.{_≡_, refl, sym, ap, _∙_, subst}
+use mathlib.Core.Bool.{Bool, true, false, not, cond}
+use mathlib.Core.List.{List, [], _∷_, map}
+use lib.ListN.{length}
+use lib.Dec.{T, ltb, eqb}
+use lib.Ieee.{binary32, mul, isNan}
+use lib.Ieee.Scale.{finite}
+use borrow.Author.Tests.{ltb-true, eqb-true, ne-eqb}
+use Rattle.float32.specs.Bound.{inBound, Bounded}
+use Rattle.float32.specs.Laws.BoundLaws.{in-bound-bounded}
+use Rattle.float32.specs.Sums.{Within}
+use Rattle.float32.specs.Laws.Sums.{product-within}
+use Rattle.float32.specs.Laws.LongSums.{score-no-nan, score-finite}
+use Rattle.sequences.specs.Lists.{EachOf, every, withKey, strictlyRise}
+use Rattle.sequences.specs.Laws.Lists.{both}
+use Rattle.sequences.specs.Laws.Each.{each-those, each-append}
+use Rattle.documents.specs.Documents.{Term, valuesAt, products, dot}
+use Rattle.documents.specs.Checks.{termsHold}
+use Rattle.documents.specs.Laws.TermKeys.{Held}
+
+abbrev pub BoundedTerm : Term → Type 0
+BoundedTerm t = Bounded (t .value)
+
+-- ---- values
+pub holds-bounded : (ts : List Term) → EachOf Held ts → termsHold ts ≡ true → EachOf BoundedTerm ts
+unfolding termsHold
+holds-bounded ts H h = go ts H (both (strictlyRise (map (λ t. t .component) ts)) (every (λ t. inBound (t .value)) ts) h .1)
+  where
+    go : (ts : List Term) → EachOf Held ts → every (λ t. inBound (t .value)) ts ≡ true → EachOf BoundedTerm ts
+    go [] H h = tt
+    go (t ∷ ts) H h = let b = both (inBound (t .value)) (every (λ t. inBound (t .value)) ts) h in (in-bound-bounded (t .value) (H .0 .fit) (b .0), go ts (H .1) (b .1))
+
+-- ---- one value at most for each component
+none-at : (c : ℕ) (ts : List Term) → strictlyRise (c ∷ map (λ t. t .component) ts) ≡ true → withKey (λ t. t .component) c ts ≡ []
+none-at c ts h = go c ts (later c ts h)
+  where
+    later : (c : ℕ) (ts : List Term) → strictlyRise (c ∷ map (λ t. t .component) ts) ≡ true → EachOf (λ t. c < t .component) ts
+    later c [] h = tt
+    later c (t ∷ ts) h =
+        let b = both (ltb c (t .component)) (strictlyRise (t .component ∷ map (λ t. t .component) ts)) h in
+        let l : c < t .component = ltb-true c (t .component) (b .0) in
+        (l, weaker ts l (later (t .component) ts (b .1)))
+      where
+        weaker : (us : List Term) → c < t .component → EachOf (λ u. t .component < u .component) us → EachOf (λ u. c < u .component) us
+        weaker [] l e = tt
+        weaker (u ∷ us) l e = (omega (arith, e .0), weaker us l (e .1))
+
+    go : (c : ℕ) (ts : List Term) → EachOf (λ t. c < t .component) ts → withKey (λ t. t .component) c ts ≡ []
+    go c [] e = refl
+    go c (t ∷ ts) e =
+        ap (λ b. cond b (t ∷ withKey (λ t. t .component) c ts) (withKey (λ t. t .component) c ts)) (ne-eqb (t .component) c (λ f. omega (arith, e .0)))
+        ∙ go c ts (e .1)
+
+pub one-value : (c : ℕ) (ts : List Term) → strictlyRise (map (λ t. t .component) ts) ≡ true → length (valuesAt c ts) ≤ 1
+one-value c [] h = omega arith
+one-value c (t ∷ ts) h = go (eqb (t .component) c) refl (one-value c ts (rest ts h))
+  where
+    rest : (ts : List Term) → strictlyRise (t .component ∷ map (λ t. t .component) ts) ≡ true → strictlyRise (map (λ t. t .component) ts) ≡ true
+    rest [] h = refl
+    rest (u ∷ ts) h = both (ltb (t .component) (u .component)) (strictlyRise (u .component ∷ map (λ t. t .component) ts)) h .1
+
+    go : (b : Bool) → eqb (t .component) c ≡ b → length (valuesAt c ts) ≤ 1 → length (map (λ t. t .value) (cond b (t ∷ withKey (λ t. t .component) c ts) (withKey (λ t. t .component) c ts))) ≤ 1
+    go true e i =
+        let z : withKey (λ t. t .component) c ts ≡ [] = subst (λ k. withKey (λ t. t .component) k ts ≡ []) (eqb-true (t .component) c e) (none-at (t .component) ts h) in
+        subst (λ l. length (map (λ t. t .value) (t ∷ l)) ≤ 1) (sym z) (omega arith)
+    go false e i = i
+
+-- ---- the dot product
+products-within : (query ts : List Term) → EachOf BoundedTerm query → EachOf BoundedTerm ts → EachOf (Within (1 * 2 ^ 213)) (products query ts)
+products-within [] ts Q H = tt
+products-within (q ∷ query) ts Q H =
+    each-append (Within (1 * 2 ^ 213)) (map (λ v. mul binary32 v (q .value)) (valuesAt (q .component) ts)) (products query ts)
+    (times (withKey (λ t. t .component) (q .component) ts) (each-those BoundedTerm (λ t. eqb (t .component) (q .component)) ts H))
+    (products-within query ts (Q .1) H)
+  where
+    times : (us : List Term) → EachOf BoundedTerm us → EachOf (Within (1 * 2 ^ 213)) (map (λ v. mul binary32 v (q .value)) (map (λ t. t .value) us))
+    times [] e = tt
+    times (u ∷ us) e = (product-within (u .value) (q .value) (e .0) (Q .0), times us (e .1))
+
+-- a score is never a NaN, nor an infinity, whatever the number of terms
+pub dot-number : (query ts : List Term) → EachOf BoundedTerm query → EachOf BoundedTerm ts → T (not (isNan (dot query ts)))
+unfolding dot
+dot-number query ts Q H = score-no-nan (products query ts) (products-within query ts Q H)
+
+pub dot-finite : (query ts : List Term) → EachOf BoundedTerm query → EachOf BoundedTerm ts → T (finite (dot query ts))
+unfolding dot
+dot-finite query ts Q H = score-finite (products query ts) (products-within query ts Q H)

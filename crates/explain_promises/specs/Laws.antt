@@ -1,0 +1,9 @@
+pub mod Cuts
+pub mod Alone
+pub mod Again
+pub mod AtTurn
+pub mod Met
+pub mod True
+pub mod Alike
+pub mod AfterSearch
+pub mod Short

@@ -1,0 +1,12 @@
+pub mod Order
+pub mod Pushing
+pub mod Sorted
+pub mod Best
+pub mod Stable
+pub mod LeftOut
+pub mod Entry
+pub mod Laid
+pub mod WellKept
+pub mod Told
+pub mod Worst
+pub mod Cases

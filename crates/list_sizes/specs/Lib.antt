@@ -1,3 +1,0 @@
-pub mod Sized
-pub mod Tallied
-pub mod Fronts

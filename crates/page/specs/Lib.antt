@@ -1,8 +1,0 @@
-pub mod Reading
-pub mod Through
-pub mod Zeros
-pub mod Score
-pub mod Laid
-pub mod Walk
-pub mod Reads
-pub mod Cases

@@ -1,9 +1,0 @@
-pub mod Layout
-pub mod WellFormed
-pub mod Scores
-pub mod ReadBack
-pub mod Stays
-pub mod Walk
-pub mod WalkLaws
-pub mod Promises
-pub mod Cases

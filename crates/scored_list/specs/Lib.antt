@@ -1,4 +1,0 @@
-pub mod Answers
-pub mod Entries
-pub mod Same
-pub mod Promises

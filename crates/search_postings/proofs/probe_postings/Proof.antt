@@ -1,0 +1,149 @@
+-- `search_postings::probe_postings`: probing what is left is probing all.
+use mathlib.Core.Path.{_≡_, refl, ap, _∙_}
+use Prim.Native.Nat.{_-_}
+use lib.ListN.{length as len}
+use Rattle.sequences.specs.Lists.{from}
+use Rattle.kept_list.specs.Lent.{lent}
+use Rattle.search_postings.specs.Ranges.{throughTable}
+use Rattle.search_postings.specs.Postings.{lends, heldProbe}
+use Rattle.search_postings.proofs.Probes.{probe-on, probe-stop, probe-end}
+use borrow.Author.Needs.{needs}
+use Rattle.search_postings.proofs.probe_postings.Statement.{statement}
+use Rattle.search_postings.proofs.probe_postings.Tie as tie
+
+abbrev Inv-loop : tie.InvT-loop
+Inv-loop table sieve query-components query-values components values k postings first end length₀ packed₀ scores₀ visits₀ stop c₀ i₀ length packed scores visits c i =
+    (len packed ≡ len packed₀) × (len scores ≡ len scores₀) × (len visits ≡ len visits₀)
+    × (heldProbe k (throughTable table sieve query-components query-values components values) postings (from i (stop - i)) c (lends (lent length packed scores) visits)
+    ≡ heldProbe k (throughTable table sieve query-components query-values components values) postings (from first (stop - first)) c₀ (lends (lent length₀ packed₀ scores₀) visits₀))
+
+abbrev μ-loop : tie.MeasureT-loop
+μ-loop table sieve query-components query-values components values k postings first end length₀ packed₀ scores₀ visits₀ stop c₀ i₀ length packed scores visits c i = stop - i
+
+-- the places that the needs speak of, found by their types
+abbrev evaluate-of : tie.After-known-told Inv-loop μ-loop → tie.After-evaluate Inv-loop μ-loop
+evaluate-of p = search needs
+
+abbrev in-loop-of : tie.After-evaluate Inv-loop μ-loop → tie.In-loop Inv-loop μ-loop
+in-loop-of p = search needs
+
+abbrev loop-of : tie.In-loop Inv-loop μ-loop → tie.At-loop Inv-loop μ-loop
+loop-of p = search needs
+
+abbrev shorter-of : tie.At-loop Inv-loop μ-loop → tie.After-shorter Inv-loop μ-loop
+shorter-of p = search needs
+
+abbrev start-of : tie.After-shorter Inv-loop μ-loop → tie.Start Inv-loop μ-loop
+start-of p = search needs
+
+shorter-requires : tie.Need-shorter-requires Inv-loop μ-loop
+shorter-requires c κs = tt
+
+loop-holds : tie.Need-loop-holds Inv-loop μ-loop
+loop-holds c = (refl, refl, refl, refl)
+
+mul-t26 : tie.Need-mul-t26 Inv-loop μ-loop
+mul-t26 c = search needs
+
+shared-slice-read-t28 : tie.Need-shared-slice-read-t28 Inv-loop μ-loop
+shared-slice-read-t28 c = search needs
+
+evaluate-requires : tie.Need-evaluate-requires Inv-loop μ-loop
+evaluate-requires c κs = tt
+
+enum-known-t : tie.Need-enum-known-t Inv-loop μ-loop
+enum-known-t c = search needs
+
+enum-known-t-2 : tie.Need-enum-known-t-2 Inv-loop μ-loop
+enum-known-t-2 c = search needs
+
+same-length : tie.Need-same-length Inv-loop μ-loop
+same-length c = search needs
+
+same-length-2 : tie.Need-same-length-2 Inv-loop μ-loop
+same-length-2 c = search needs
+
+same-length-3 : tie.Need-same-length-3 Inv-loop μ-loop
+same-length-3 c = search needs
+
+returns : tie.Need-returns Inv-loop μ-loop
+returns c =
+    let at-evaluate : tie.After-evaluate Inv-loop μ-loop = search needs in
+    let in-loop = in-loop-of at-evaluate in
+    let at-loop = loop-of in-loop in
+    let at-shorter = shorter-of at-loop in
+    let start = start-of at-shorter in
+    let l = at-loop .loop in let a = start .args in
+    probe-stop (a .k) (throughTable (a .table .now) (a .sieve .now) (a .query-components .now) (a .query-values .now) (a .components .now) (a .values .now)) (a .postings .now)
+    (l .i) (at-shorter .shorter .result) (l .c) (lends (lent (l .length) (l .packed) (l .scores))
+    (l .visits)) (at-evaluate .evaluate .result) _ _ _ (in-loop .loop-test .taken) (c .before .t2 .given .1) (at-evaluate .evaluate .ensures) ∙ l .inv .3
+    ∙ ap (λ e. heldProbe (a .k) (throughTable (a .table .now) (a .sieve .now) (a .query-components .now) (a .query-values .now) (a .components .now) (a .values .now))
+    (a .postings .now) (from (a .first) (e - a .first)) (a .counts) (lends (lent (a .length .now) (a .packed .now) (a .scores .now)) (a .visits .now)))
+    (at-shorter .shorter .ensures)
+
+add-i : tie.Need-add-i Inv-loop μ-loop
+add-i c = search needs
+
+loop-less : tie.Need-loop-less Inv-loop μ-loop
+loop-less c = search needs
+
+loop-again : tie.Need-loop-again Inv-loop μ-loop
+loop-again c =
+    let l = (loop-of (in-loop-of (evaluate-of c))) .loop in
+    let a = (start-of (shorter-of (loop-of (in-loop-of (evaluate-of c))))) .args in (
+      search needs,
+      search needs,
+      search needs,
+      let at-evaluate = evaluate-of c in
+          let in-loop = in-loop-of at-evaluate in
+          let at-shorter = shorter-of (loop-of in-loop) in
+          probe-on (a .k) (throughTable (a .table .now) (a .sieve .now) (a .query-components .now) (a .query-values .now) (a .components .now) (a .values .now)) (a .postings .now)
+          (l .i) (at-shorter .shorter .result) (l .c) (lends (lent (l .length) (l .packed) (l .scores))
+          (l .visits)) (at-evaluate .evaluate .result) _ _ (in-loop .loop-test .taken) (c .before .t .given .1) (at-evaluate .evaluate .ensures) ∙ l .inv .3,
+    )
+
+same-length-4 : tie.Need-same-length-4 Inv-loop μ-loop
+same-length-4 c = search needs
+
+same-length-5 : tie.Need-same-length-5 Inv-loop μ-loop
+same-length-5 c = search needs
+
+same-length-6 : tie.Need-same-length-6 Inv-loop μ-loop
+same-length-6 c = search needs
+
+returns-2 : tie.Need-returns-2 Inv-loop μ-loop
+returns-2 c =
+    let start : tie.Start Inv-loop μ-loop = search needs in
+    let l = c .before .loop in
+    let a = start .args in
+    probe-end (a .k) (throughTable (a .table .now) (a .sieve .now) (a .query-components .now) (a .query-values .now) (a .components .now) (a .values .now)) (a .postings .now)
+    (l .i) (c .before .before .shorter .result) (l .c)
+    (lends (lent (l .length) (l .packed) (l .scores)) (l .visits)) (c .loop-test .left) ∙ l .inv .3 ∙ ap
+    (λ e. heldProbe (a .k) (throughTable (a .table .now) (a .sieve .now) (a .query-components .now) (a .query-values .now) (a .components .now) (a .values .now))
+    (a .postings .now) (from (a .first) (e - a .first)) (a .counts) (lends (lent (a .length .now) (a .packed .now) (a .scores .now))
+    (a .visits .now))) (c .before .before .shorter .ensures)
+
+pub probe-postings-spec : {M : Type 1} → statement M
+probe-postings-spec =
+    tie.close
+    (tie.spec
+    Inv-loop
+    μ-loop
+    shorter-requires
+    loop-holds
+    mul-t26
+    shared-slice-read-t28
+    evaluate-requires
+    enum-known-t
+    enum-known-t-2
+    same-length
+    same-length-2
+    same-length-3
+    returns
+    add-i
+    loop-less
+    loop-again
+    same-length-4
+    same-length-5
+    same-length-6
+    returns-2)

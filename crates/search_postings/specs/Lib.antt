@@ -1,0 +1,4 @@
+pub mod Ranges
+pub mod Outcomes
+pub mod Postings
+pub mod Laws

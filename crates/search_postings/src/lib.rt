@@ -1,0 +1,183 @@
+// One posting after another: a range that was not visited is read against the query by its table and sieve, and a scored one is kept if
+// it is among the k best. Nothing is assumed of the slices, nor that the table and the sieve are those of the query.
+ghost use mathlib.Core.Path.{_≡_};
+ghost use Prim.Native.Nat.{_+_, _-_, _≤_, min};
+ghost use lib.ListN.{length as len};
+ghost use Rattle.sequences.specs.Lists.{from};
+ghost use Rattle.kept_list.specs.Lent.{lent};
+ghost use Rattle.search_postings.specs.Ranges.{rangeThrough, throughTable};
+ghost use Rattle.search_postings.specs.Postings.{lends, turned, heldEvaluate, heldProbe};
+use number_types::RangeStart;
+use packing::PackedPosting;
+use refusal::Refusal;
+use search_page::Reading;
+
+// What reading a posting's range says.
+pub enum RangeReading {
+    ReachesPast,
+    Breaks,
+    Score(f32),
+}
+
+// The postings evaluated and the blocks skipped so far.
+pub struct Counts {
+    pub evaluated: u64,
+    pub skipped: u64,
+}
+
+// Whether the turns go on, and with which counts.
+pub enum Turn {
+    On(Counts),
+    Stopped { reason: Refusal, position: u64 },
+}
+
+// The terms from a start to below an end, read by the table or through the sieve.
+fn read_range(
+    table: &[f32; 32768],
+    sieve: &[u8; 4096],
+    query_components: &[u32],
+    query_values: &[f32],
+    components: &[u32],
+    values: &[f32],
+    start: RangeStart,
+    end: u64,
+) -> RangeReading
+    requires { ⌜ start .0 ≤ end ⌝ }
+    ensures { λ r. ⌜ r ≡ rangeThrough (now (table .entry)) (now (sieve .entry)) (now («query_components» .entry)) (now («query_values» .entry)) (now (components .entry))
+        (now (values .entry)) (start .0) end ⌝ }
+{
+    let from = start.0 as usize;
+    let to = end as usize;
+    let n = documents::term_count(components, values);
+    if n < to {
+        return RangeReading::ReachesPast;
+    }
+    let r = search_page::read(
+        table,
+        sieve,
+        &components[from..to],
+        &values[from..to],
+        query_components,
+        query_values,
+    );
+    match r {
+        Reading::Breaks => RangeReading::Breaks,
+        Reading::Score(x) => RangeReading::Score(x),
+    }
+}
+
+// One posting: passed over where its start was visited; else its range is read, and a scored one is kept if it is among the k best,
+// and its start is marked. Nothing changes where it stops the search.
+fn evaluate(
+    table: &[f32; 32768],
+    sieve: &[u8; 4096],
+    query_components: &[u32],
+    query_values: &[f32],
+    components: &[u32],
+    values: &[f32],
+    k: u64,
+    posting: PackedPosting,
+    position: u64,
+    length: &mut u64,
+    packed: &mut [u64],
+    scores: &mut [f32],
+    visits: &mut [u8],
+    counts: Counts,
+) -> Turn
+    ensures { λ r. ⌜ turned r (lends (lent (now (length .exit)) (now (packed .exit)) (now (scores .exit))) (now (visits .exit)))
+        ≡ heldEvaluate k (throughTable (now (table .entry)) (now (sieve .entry)) (now («query_components» .entry)) (now («query_values» .entry)) (now (components .entry)) (now (values .entry)))
+        (posting .0) position counts (lends (lent (now (length .entry)) (now (packed .entry)) (now (scores .entry))) (now (visits .entry))) ⌝ }
+{
+    let range = posting.unpack();
+    let start = range.start;
+    if search_steps::is_visited(visits, start) {
+        return Turn::On(counts);
+    }
+    let r = read_range(
+        table,
+        sieve,
+        query_components,
+        query_values,
+        components,
+        values,
+        start,
+        range.end,
+    );
+    match r {
+        RangeReading::ReachesPast => Turn::Stopped {
+            reason: Refusal::PastTheTerms,
+            position: position,
+        },
+        RangeReading::Breaks => Turn::Stopped {
+            reason: Refusal::WrongTerms,
+            position: position,
+        },
+        RangeReading::Score(x) => {
+            search_held::keep_found(k, posting, start, x, length, packed, scores, visits);
+            Turn::On(Counts {
+                evaluated: search_steps::one_more(counts.evaluated),
+                skipped: counts.skipped,
+            })
+        }
+    }
+}
+
+// The postings from one position to below another, as far as there are any, one after another. It takes time in proportion to the terms
+// of the postings evaluated, and a few steps for each one passed over.
+pub fn probe_postings(
+    table: &[f32; 32768],
+    sieve: &[u8; 4096],
+    query_components: &[u32],
+    query_values: &[f32],
+    components: &[u32],
+    values: &[f32],
+    k: u64,
+    postings: &[u64],
+    first: usize,
+    end: u64,
+    length: &mut u64,
+    packed: &mut [u64],
+    scores: &mut [f32],
+    visits: &mut [u8],
+    counts: Counts,
+) -> Turn
+    ensures { λ r. ⌜ turned r (lends (lent (now (length .exit)) (now (packed .exit)) (now (scores .exit))) (now (visits .exit)))
+        ≡ heldProbe k (throughTable (now (table .entry)) (now (sieve .entry)) (now («query_components» .entry)) (now («query_values» .entry)) (now (components .entry))
+        (now (values .entry))) (now (postings .entry)) (from first (min end (len (now (postings .entry))) - first)) counts
+        (lends (lent (now (length .entry)) (now (packed .entry)) (now (scores .entry))) (now (visits .entry))) ⌝ }
+{
+    let stop = cells::shorter(end as usize, postings.len());
+    let mut c = counts;
+    let mut i = first;
+    while i < stop {
+        let t = evaluate(
+            table,
+            sieve,
+            query_components,
+            query_values,
+            components,
+            values,
+            k,
+            PackedPosting(postings[i]),
+            i as u64,
+            length,
+            packed,
+            scores,
+            visits,
+            c,
+        );
+        match t {
+            Turn::On(d) => {
+                c = d;
+            }
+            Turn::Stopped { reason, position } => {
+                return Turn::Stopped {
+                    reason: reason,
+                    position: position,
+                };
+            }
+        }
+        i += 1;
+    }
+    Turn::On(c)
+}

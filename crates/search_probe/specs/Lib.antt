@@ -1,0 +1,3 @@
+pub mod Probing
+pub mod Probed
+pub mod Laws

@@ -1,0 +1,5 @@
+pub mod Each
+pub mod Groups
+pub mod Sorted
+pub mod Greatest
+pub mod Lists

@@ -1,0 +1,11 @@
+pub mod Passes
+pub mod Placing
+pub mod Counted
+pub mod Gathered
+pub mod Keys
+pub mod Guards
+pub mod Laying
+pub mod Written
+pub mod AnyOrder
+pub mod ReadBack
+pub mod Near

@@ -1,0 +1,6 @@
+pub mod ReadBack
+pub mod Stays
+pub mod Walk
+pub mod WalkLaws
+pub mod Promises
+pub mod Cases

@@ -1,0 +1,7 @@
+pub mod Layout
+pub mod WellFormed
+pub mod Scores
+pub mod ReadBack
+pub mod Walk
+pub mod Promises
+pub mod Laws

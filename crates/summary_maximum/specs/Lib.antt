@@ -1,0 +1,4 @@
+pub mod Maximum
+pub mod Meeting
+pub mod Changes
+pub mod Laws
