@@ -47,7 +47,9 @@ pub fn summarize_block(
 
 // Sets the work space of a pass to zero.
 pub fn clear_work(keys: &mut [u64], places: &mut [u64], maxima: &mut [f32])
-    ensures { λ _. ⌜ (now (keys .exit) ≡ zeros (now (keys .entry))) × (now (places .exit) ≡ zeros (now (places .entry))) × (now (maxima .exit) ≡ floatZeros (now (maxima .entry))) ⌝ }
+    ensures keys { λ _. ⌜ now (keys .exit) ≡ zeros (now (keys .entry)) ⌝ }
+    ensures places { λ _. ⌜ now (places .exit) ≡ zeros (now (places .entry)) ⌝ }
+    ensures maxima { λ _. ⌜ now (maxima .exit) ≡ floatZeros (now (maxima .entry)) ⌝ }
 {
     clearing::clear_u64(keys);
     clearing::clear_u64(places);

@@ -29,8 +29,9 @@ fn copy(ids: &[u64], order: &mut [u64])
 // Blocks of a fixed size: the documents stay as they are listed.
 fn cut(block_size: u64, ids: &[u64], order: &mut [u64], blocks: &mut [u64]) -> u64
     requires { ⌜ CutFits «block_size» (length (now ids)) (length (now order)) (length (now blocks)) ⌝ }
-    ensures { λ r. ⌜ (r ≡ length (fixedOffsets (length (now (ids .entry))) «block_size»)) × (now (order .exit) ≡ laid (now (ids .entry)) (now (order .entry)))
-        × (now (blocks .exit) ≡ laid (fixedOffsets (length (now (ids .entry))) «block_size») (now (blocks .entry))) ⌝ }
+    ensures answer { λ r. ⌜ r ≡ length (fixedOffsets (length (now (ids .entry))) «block_size») ⌝ }
+    ensures order { λ r. ⌜ now (order .exit) ≡ laid (now (ids .entry)) (now (order .entry)) ⌝ }
+    ensures blocks { λ r. ⌜ now (blocks .exit) ≡ laid (fixedOffsets (length (now (ids .entry))) «block_size») (now (blocks .entry)) ⌝ }
 {
     copy(ids, order);
     match blocking::fixed_size_blocking(ids.len() as u64, block_size, blocks) {

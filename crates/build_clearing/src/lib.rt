@@ -29,8 +29,10 @@ pub fn clear_output(
 
 // Sets the work space to zero.
 pub fn clear_work(keys: &mut [u64], places: &mut [u64], maxima: &mut [f32], counts: &mut [u64])
-    ensures { λ _. ⌜ (now (keys .exit) ≡ zeros (now (keys .entry))) × (now (places .exit) ≡ zeros (now (places .entry))) × (now (maxima .exit) ≡ floatZeros (now (maxima .entry)))
-        × (now (counts .exit) ≡ zeros (now (counts .entry))) ⌝ }
+    ensures keys { λ _. ⌜ now (keys .exit) ≡ zeros (now (keys .entry)) ⌝ }
+    ensures places { λ _. ⌜ now (places .exit) ≡ zeros (now (places .entry)) ⌝ }
+    ensures maxima { λ _. ⌜ now (maxima .exit) ≡ floatZeros (now (maxima .entry)) ⌝ }
+    ensures counts { λ _. ⌜ now (counts .exit) ≡ zeros (now (counts .entry)) ⌝ }
 {
     clearing::clear_u64(keys);
     clearing::clear_u64(places);

@@ -78,8 +78,10 @@ fn place(
         (now (order .entry)) (now (blocks .entry)) (now (keys .entry)) (now (places .entry)) (now (maxima .entry)) (now («entry_counts» .entry))
         (written (now (postings .entry)) (now («block_offsets» .entry)) (now («summary_components» .entry)) (now («component_offsets» .entry))
         (now («summary_ids» .entry)) (now (codes .entry))) ⌝ }
-    ensures work { λ _. ⌜ (now (keys .exit) ≡ zeros (now (keys .entry))) × (now (places .exit) ≡ zeros (now (places .entry)))
-        × (now (maxima .exit) ≡ floatZeros (now (maxima .entry))) × (now («entry_counts» .exit) ≡ zeros (now («entry_counts» .entry))) ⌝ }
+    ensures keys { λ _. ⌜ now (keys .exit) ≡ zeros (now (keys .entry)) ⌝ }
+    ensures places { λ _. ⌜ now (places .exit) ≡ zeros (now (places .entry)) ⌝ }
+    ensures maxima { λ _. ⌜ now (maxima .exit) ≡ floatZeros (now (maxima .entry)) ⌝ }
+    ensures entry_counts { λ _. ⌜ now («entry_counts» .exit) ≡ zeros (now («entry_counts» .entry)) ⌝ }
 {
     let n = shorter(dimension as usize, entry_counts.len());
     sparse_layout::lay(

@@ -10,8 +10,10 @@ ghost use Rattle.c_search.specs.Found.{shown, seen};
 
 // The number of a search's answer, and the numbers that go with it: each is 0 where the answer has none of its kind.
 fn show(answer: Answer, position: &mut u64, evaluated: &mut u64, skipped: &mut u64) -> u64
-    ensures { λ r. ⌜ (r ≡ inNumbers answer .number) × (now (position .exit) ≡ inNumbers answer .position) × (now (evaluated .exit) ≡ inNumbers answer .evaluated)
-        × (now (skipped .exit) ≡ inNumbers answer .skipped) ⌝ }
+    ensures number { λ r. ⌜ r ≡ inNumbers answer .number ⌝ }
+    ensures position { λ r. ⌜ now (position .exit) ≡ inNumbers answer .position ⌝ }
+    ensures evaluated { λ r. ⌜ now (evaluated .exit) ≡ inNumbers answer .evaluated ⌝ }
+    ensures skipped { λ r. ⌜ now (skipped .exit) ≡ inNumbers answer .skipped ⌝ }
 {
     *position = 0;
     *evaluated = 0;

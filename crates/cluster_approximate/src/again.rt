@@ -33,13 +33,16 @@ pub(crate) fn assign_again(
     taken: &mut [u64],
 )
     requires { ⌜ length (now centroids) ≤ length (now competing) ⌝ }
-    ensures { λ _. ⌜ (now (taken .exit) ≡ over (bothRanks (documents (now (offsets .entry)) (now (components .entry)) (now (values .entry))) cut minimum
+    ensures taken { λ _. ⌜ now (taken .exit) ≡ over (bothRanks (documents (now (offsets .entry)) (now (components .entry)) (now (values .entry))) cut minimum
         (now (centroids .entry)) (now (known .entry)) (now (counts .entry)) (length (now (starts .entry))) (length (now (slots .entry))) (length (now (weights .entry)))
-        (length (now (sums .entry))) (length (now (keys .entry)))) (now (ids .entry)) (now (taken .entry)))
-        × (now (competing .exit) ≡ replicate (length (now (competing .entry))) 0) × (now (counts .exit) ≡ replicate (length (now (counts .entry))) 0)
-        × (now (starts .exit) ≡ replicate (length (now (starts .entry))) 0) × (now (slots .exit) ≡ replicate (length (now (slots .entry))) 0)
-        × (now (weights .exit) ≡ replicate (length (now (weights .entry))) (fin false 0 (pos 0)))
-        × (now (sums .exit) ≡ replicate (length (now (sums .entry))) (fin false 0 (pos 0))) × (now (keys .exit) ≡ replicate (length (now (keys .entry))) 0) ⌝ }
+        (length (now (sums .entry))) (length (now (keys .entry)))) (now (ids .entry)) (now (taken .entry)) ⌝ }
+    ensures competing { λ _. ⌜ now (competing .exit) ≡ replicate (length (now (competing .entry))) 0 ⌝ }
+    ensures counts { λ _. ⌜ now (counts .exit) ≡ replicate (length (now (counts .entry))) 0 ⌝ }
+    ensures starts { λ _. ⌜ now (starts .exit) ≡ replicate (length (now (starts .entry))) 0 ⌝ }
+    ensures slots { λ _. ⌜ now (slots .exit) ≡ replicate (length (now (slots .entry))) 0 ⌝ }
+    ensures weights { λ _. ⌜ now (weights .exit) ≡ replicate (length (now (weights .entry))) (fin false 0 (pos 0)) ⌝ }
+    ensures sums { λ _. ⌜ now (sums .exit) ≡ replicate (length (now (sums .entry))) (fin false 0 (pos 0)) ⌝ }
+    ensures keys { λ _. ⌜ now (keys .exit) ≡ replicate (length (now (keys .entry))) 0 ⌝ }
 {
     let m = gather(minimum, centroids, known, counts, competing);
     cluster_index::fill(

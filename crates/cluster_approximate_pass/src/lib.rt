@@ -72,11 +72,11 @@ pub fn first_pass(
     keys: &mut [u64],
     taken: &mut [u64],
 )
-    ensures { λ _. ⌜ (now (taken .exit) ≡ over (λ i r. rankIn (now (known .entry)) (nearlyChoice cut (first .0) (now (competing .entry)) (documents (now (starts .entry)) (now (slots .entry))
+    ensures taken { λ _. ⌜ now (taken .exit) ≡ over (λ i r. rankIn (now (known .entry)) (nearlyChoice cut (first .0) (now (competing .entry)) (documents (now (starts .entry)) (now (slots .entry))
         (now (weights .entry))) (length (now (sums .entry))) (length (now (keys .entry)))
-        (documents (now (offsets .entry)) (now (components .entry)) (now (values .entry))) i)) (now (ids .entry)) (now (taken .entry)))
-        × (now (sums .exit) ≡ replicate (length (now (sums .entry))) (fin false 0 (pos 0)))
-        × (now (keys .exit) ≡ replicate (length (now (keys .entry))) 0) ⌝ }
+        (documents (now (offsets .entry)) (now (components .entry)) (now (values .entry))) i)) (now (ids .entry)) (now (taken .entry)) ⌝ }
+    ensures sums { λ _. ⌜ now (sums .exit) ≡ replicate (length (now (sums .entry))) (fin false 0 (pos 0)) ⌝ }
+    ensures keys { λ _. ⌜ now (keys .exit) ≡ replicate (length (now (keys .entry))) 0 ⌝ }
 {
     clearing::clear_f32(sums);
     let n = shorter(ids.len(), taken.len());
@@ -123,11 +123,11 @@ pub fn second_pass(
     keys: &mut [u64],
     taken: &mut [u64],
 )
-    ensures { λ _. ⌜ (now (taken .exit) ≡ over (againRank (now (known .entry)) (now (counts .entry)) minimum cut (first .0) (now (competing .entry)) (documents (now (starts .entry))
+    ensures taken { λ _. ⌜ now (taken .exit) ≡ over (againRank (now (known .entry)) (now (counts .entry)) minimum cut (first .0) (now (competing .entry)) (documents (now (starts .entry))
         (now (slots .entry)) (now (weights .entry))) (length (now (sums .entry))) (length (now (keys .entry)))
-        (documents (now (offsets .entry)) (now (components .entry)) (now (values .entry)))) (now (ids .entry)) (now (taken .entry)))
-        × (now (sums .exit) ≡ replicate (length (now (sums .entry))) (fin false 0 (pos 0)))
-        × (now (keys .exit) ≡ replicate (length (now (keys .entry))) 0) ⌝ }
+        (documents (now (offsets .entry)) (now (components .entry)) (now (values .entry)))) (now (ids .entry)) (now (taken .entry)) ⌝ }
+    ensures sums { λ _. ⌜ now (sums .exit) ≡ replicate (length (now (sums .entry))) (fin false 0 (pos 0)) ⌝ }
+    ensures keys { λ _. ⌜ now (keys .exit) ≡ replicate (length (now (keys .entry))) 0 ⌝ }
 {
     clearing::clear_f32(sums);
     let end = shorter(ids.len(), taken.len());

@@ -28,15 +28,18 @@ fn take_by(
     keys: &mut [u64],
     taken: &mut [u64],
 )
-    ensures { λ _. ⌜ (now (taken .exit) ≡ ranksBy algorithm (documents (now (offsets .entry)) (now (components .entry)) (now (values .entry))) minimum
+    ensures taken { λ _. ⌜ now (taken .exit) ≡ ranksBy algorithm (documents (now (offsets .entry)) (now (components .entry)) (now (values .entry))) minimum
         (now (centroids .entry)) (now (known .entry)) (length (now (competing .entry)))
         (length (now (starts .entry))) (length (now (slots .entry))) (length (now (weights .entry))) (length (now (sums .entry)))
         (length (now (counts .entry))) (length (now (keys .entry))) (take (length (now (taken .entry))) (now (ids .entry)))
-        ++ drop (length (now (ids .entry))) (now (taken .entry)))
-        × (now (competing .exit) ≡ zeros (now (competing .entry))) × (now (counts .exit) ≡ zeros (now (counts .entry)))
-        × (now (starts .exit) ≡ zeros (now (starts .entry))) × (now (slots .exit) ≡ zeros (now (slots .entry)))
-        × (now (weights .exit) ≡ floatZeros (now (weights .entry))) × (now (sums .exit) ≡ floatZeros (now (sums .entry)))
-        × (now (keys .exit) ≡ zeros (now (keys .entry))) ⌝ }
+        ++ drop (length (now (ids .entry))) (now (taken .entry)) ⌝ }
+    ensures competing { λ _. ⌜ now (competing .exit) ≡ zeros (now (competing .entry)) ⌝ }
+    ensures counts { λ _. ⌜ now (counts .exit) ≡ zeros (now (counts .entry)) ⌝ }
+    ensures starts { λ _. ⌜ now (starts .exit) ≡ zeros (now (starts .entry)) ⌝ }
+    ensures slots { λ _. ⌜ now (slots .exit) ≡ zeros (now (slots .entry)) ⌝ }
+    ensures weights { λ _. ⌜ now (weights .exit) ≡ floatZeros (now (weights .entry)) ⌝ }
+    ensures sums { λ _. ⌜ now (sums .exit) ≡ floatZeros (now (sums .entry)) ⌝ }
+    ensures keys { λ _. ⌜ now (keys .exit) ≡ zeros (now (keys .entry)) ⌝ }
 {
     match algorithm {
         ClusteringAlgorithm::RandomKmeans => {
@@ -103,17 +106,20 @@ pub fn assign(
     keys: &mut [u64],
     taken: &mut [u64],
 )
-    ensures { λ _. ⌜ (now (taken .exit) ≡ ranksBy algorithm (documents (now (offsets .entry)) (now (components .entry)) (now (values .entry))) minimum
+    ensures taken { λ _. ⌜ now (taken .exit) ≡ ranksBy algorithm (documents (now (offsets .entry)) (now (components .entry)) (now (values .entry))) minimum
         (fitting (length (now (known .entry))) (length (now (competing .entry))) (now (centroids .entry)))
         (sorted (fitting (length (now (known .entry))) (length (now (competing .entry))) (now (centroids .entry)))) (length (now (competing .entry)))
         (length (now (starts .entry))) (length (now (slots .entry))) (length (now (weights .entry))) (length (now (sums .entry)))
         (length (now (counts .entry))) (length (now (keys .entry))) (take (length (now (taken .entry))) (now (ids .entry)))
-        ++ drop (length (now (ids .entry))) (now (taken .entry)))
-        × (now (known .exit) ≡ zeros (now (known .entry)))
-        × (now (competing .exit) ≡ zeros (now (competing .entry))) × (now (counts .exit) ≡ zeros (now (counts .entry)))
-        × (now (starts .exit) ≡ zeros (now (starts .entry))) × (now (slots .exit) ≡ zeros (now (slots .entry)))
-        × (now (weights .exit) ≡ floatZeros (now (weights .entry))) × (now (sums .exit) ≡ floatZeros (now (sums .entry)))
-        × (now (keys .exit) ≡ zeros (now (keys .entry))) ⌝ }
+        ++ drop (length (now (ids .entry))) (now (taken .entry)) ⌝ }
+    ensures known { λ _. ⌜ now (known .exit) ≡ zeros (now (known .entry)) ⌝ }
+    ensures competing { λ _. ⌜ now (competing .exit) ≡ zeros (now (competing .entry)) ⌝ }
+    ensures counts { λ _. ⌜ now (counts .exit) ≡ zeros (now (counts .entry)) ⌝ }
+    ensures starts { λ _. ⌜ now (starts .exit) ≡ zeros (now (starts .entry)) ⌝ }
+    ensures slots { λ _. ⌜ now (slots .exit) ≡ zeros (now (slots .entry)) ⌝ }
+    ensures weights { λ _. ⌜ now (weights .exit) ≡ floatZeros (now (weights .entry)) ⌝ }
+    ensures sums { λ _. ⌜ now (sums .exit) ≡ floatZeros (now (sums .entry)) ⌝ }
+    ensures keys { λ _. ⌜ now (keys .exit) ≡ zeros (now (keys .entry)) ⌝ }
 {
     let room = shorter(known.len(), competing.len());
     let m = shorter(centroids.len(), room);

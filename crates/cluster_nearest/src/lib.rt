@@ -170,10 +170,10 @@ pub fn largest_keys(
     cut: u64,
     keys: &mut [u64],
 ) -> usize
-    ensures { λ r. ⌜ (now (keys .exit) ≡ keysOf (now (keys .entry)) (terms (documents (now (offsets .entry)) (now (components .entry)) (now (values .entry))) (id .0)))
-        × (r ≡ min cut (min (length (terms (documents (now (offsets .entry)) (now (components .entry)) (now (values .entry))) (id .0))) (length (now (keys .entry)))))
-        × (map termOf (take r (now (keys .exit))) ≡ largest cut (take (length (now (keys .entry))) (terms (documents (now (offsets .entry)) (now (components .entry))
-        (now (values .entry))) (id .0)))) ⌝ }
+    ensures keys { λ r. ⌜ now (keys .exit) ≡ keysOf (now (keys .entry)) (terms (documents (now (offsets .entry)) (now (components .entry)) (now (values .entry))) (id .0)) ⌝ }
+    ensures answer { λ r. ⌜ r ≡ min cut (min (length (terms (documents (now (offsets .entry)) (now (components .entry)) (now (values .entry))) (id .0))) (length (now (keys .entry)))) ⌝ }
+    ensures terms { λ r. ⌜ map termOf (take r (now (keys .exit))) ≡ largest cut (take (length (now (keys .entry))) (terms (documents (now (offsets .entry)) (now (components .entry))
+        (now (values .entry))) (id .0))) ⌝ }
 {
     let p = cluster_index::places_of(offsets, components, values, id);
     let from = p.from;

@@ -41,11 +41,12 @@ fn group_and_clear(
     blocks: &mut [u64],
 ) -> u64
     requires { ⌜ (n ≤ length (now sorted)) × (n ≤ length (now taken)) ⌝ }
-    ensures { λ r. ⌜ (r ≡ someGroups (take n (now (taken .entry))) (take n (now (sorted .entry))) (now (counts .entry)) (now (order .entry)) (now (blocks .entry)) .count)
-        × (now (order .exit) ≡ someGroups (take n (now (taken .entry))) (take n (now (sorted .entry))) (now (counts .entry)) (now (order .entry)) (now (blocks .entry)) .order)
-        × (now (blocks .exit) ≡ someGroups (take n (now (taken .entry))) (take n (now (sorted .entry))) (now (counts .entry)) (now (order .entry)) (now (blocks .entry)) .blocks)
-        × (now (sorted .exit) ≡ zeros (now (sorted .entry))) × (now (taken .exit) ≡ zeros (now (taken .entry)))
-        × (now (counts .exit) ≡ zeros (now (counts .entry))) ⌝ }
+    ensures answer { λ r. ⌜ r ≡ someGroups (take n (now (taken .entry))) (take n (now (sorted .entry))) (now (counts .entry)) (now (order .entry)) (now (blocks .entry)) .count ⌝ }
+    ensures order { λ r. ⌜ now (order .exit) ≡ someGroups (take n (now (taken .entry))) (take n (now (sorted .entry))) (now (counts .entry)) (now (order .entry)) (now (blocks .entry)) .order ⌝ }
+    ensures blocks { λ r. ⌜ now (blocks .exit) ≡ someGroups (take n (now (taken .entry))) (take n (now (sorted .entry))) (now (counts .entry)) (now (order .entry)) (now (blocks .entry)) .blocks ⌝ }
+    ensures sorted { λ r. ⌜ now (sorted .exit) ≡ zeros (now (sorted .entry)) ⌝ }
+    ensures taken { λ r. ⌜ now (taken .exit) ≡ zeros (now (taken .entry)) ⌝ }
+    ensures counts { λ r. ⌜ now (counts .exit) ≡ zeros (now (counts .entry)) ⌝ }
 {
     let count = group_some(n, sorted, taken, counts, order, blocks);
     clearing::clear_u64(sorted);

@@ -13,13 +13,13 @@ use Rattle.replay_words.specs.Words.{startOf, endOf, upTo, sliceAt, spre
 
 -- ---- bounds
 -- what `limits` answers, over numbers that equal the words
-pub inside : (a b x y n : ℕ) → a ≡ x → b ≡ y → a ≤ b → b ≤ n → (a ≡ startOf x y n) × (b ≡ endOf x y n) × (a ≤ b) × (b ≤ n)
+pub inside : (a b x y n : ℕ) → a ≡ x → b ≡ y → a ≤ b → b ≤ n → (a ≡ startOf x y n) × ((b ≡ endOf x y n) × ((a ≤ b) × (b ≤ n)))
 unfolding startOf endOf
-inside a b x y n p q h k = rw (← p, ← q) (simp (le-leb a b h, le-leb b n k) (refl, refl, h, k))
+inside a b x y n p q h k = rw (← p, ← q) (simp (le-leb a b h, le-leb b n k) (refl, (refl, (h, k))))
 
-pub outside : (a b x y n : ℕ) → a ≡ x → b ≡ y → leb a b && leb b n ≡ false → (0 ≡ startOf x y n) × (0 ≡ endOf x y n) × (0 ≤ 0) × (0 ≤ n)
+pub outside : (a b x y n : ℕ) → a ≡ x → b ≡ y → leb a b && leb b n ≡ false → (0 ≡ startOf x y n) × ((0 ≡ endOf x y n) × ((0 ≤ 0) × (0 ≤ n)))
 unfolding startOf endOf
-outside a b x y n p q h = rw (← p, ← q) (simp h (refl, refl, omega arith, omega arith))
+outside a b x y n p q h = rw (← p, ← q) (simp h (refl, (refl, (omega arith, omega arith))))
 
 pub crossed : (a b n : ℕ) → b < a → leb a b && leb b n ≡ false
 crossed a b n h = simp (lt-leb a b h)

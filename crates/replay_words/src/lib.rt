@@ -44,8 +44,10 @@ struct Bounds(pub usize, pub usize);
 // Where the slice starts and ends whose start stands at a place of the words and whose end stands behind it; at the front where it
 // does not fit a length.
 fn limits(words: &[u32], at: usize, length: usize) -> Bounds
-    ensures { λ r. ⌜ (r .0 ≡ startOf (getD (now (words .entry)) at 0) (getD (now (words .entry)) (at + 1) 0) length) × (r .1 ≡ endOf (getD (now (words .entry)) at 0) (getD (now (words .entry)) (at
-        + 1) 0) length) × (r .0 ≤ r .1) × (r .1 ≤ length) ⌝ }
+    ensures start { λ r. ⌜ r .0 ≡ startOf (getD (now (words .entry)) at 0) (getD (now (words .entry)) (at + 1) 0) length ⌝ }
+    ensures end { λ r. ⌜ r .1 ≡ endOf (getD (now (words .entry)) at 0) (getD (now (words .entry)) (at + 1) 0) length ⌝ }
+    ensures ordered { λ r. ⌜ r .0 ≤ r .1 ⌝ }
+    ensures within { λ r. ⌜ r .1 ≤ length ⌝ }
 {
     let from = word(words, at) as usize;
     let to = word_after(words, at) as usize;

@@ -31,8 +31,10 @@ returns c =
     let a = start .args in
     let f = at-fixed-size-blocking .fixed-size-blocking in (
       written-count (length (a .ids .now)) (a .block-size) (a .blocks .now) (start .pre .accepted) (f .result) _ (f .ensures .0) (c .before .count .given .1),
-      at-copy .copy .ensures,
-      written-offsets (length (a .ids .now)) (a .block-size) (a .blocks .now) (start .pre .accepted) _ (f .ensures .1),
+      (
+        at-copy .copy .ensures,
+        written-offsets (length (a .ids .now)) (a .block-size) (a .blocks .now) (start .pre .accepted) _ (f .ensures .1),
+      ),
     )
 
 same-length-3 : tie.Need-same-length-3

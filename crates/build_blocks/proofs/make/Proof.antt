@@ -191,7 +191,7 @@ returns-2 c =
     (at-ready .ready .last .1 .1 .1 .1 .1 .1 .1 .1 .1 .1 .1 .1 .0) (at-ready .ready .last .1 .1 .1 .1 .1 .1 .1 .1 .1 .1 .1 .1 .1 .0)
     (at-ready .ready .last .1 .1 .1 .1 .1 .1 .1 .1 .1 .1 .1 .1 .1 .1 .0) (at-ready .ready .last .1 .1 .1 .1 .1 .1 .1 .1 .1 .1 .1 .1 .1 .1 .1 .0)
     (at-ready .ready .last .1 .1 .1 .1 .1 .1 .1 .1 .1 .1 .1 .1 .1 .1 .1 .1 .0) (at-ready .ready .last .1 .1 .1 .1 .1 .1 .1 .1 .1 .1 .1 .1 .1 .1 .1 .1 .1 .0))
-    (at-ready .ready .ensures .1) _ (at-blocking .blocking .given .1) _ _ _ (at-cut .cut .ensures .0) (at-cut .cut .ensures .1) (at-cut .cut .ensures .2)
+    (at-ready .ready .ensures .1) _ (at-blocking .blocking .given .1) _ _ _ (at-cut .cut .ensures .0) (at-cut .cut .ensures .1 .0) (at-cut .cut .ensures .1 .1)
 
 same-length-23 : tie.Need-same-length-23
 same-length-23 c =

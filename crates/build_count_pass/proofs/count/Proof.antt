@@ -54,7 +54,7 @@ returns c =
       t .ensures .0,
       left-all (tops n (a .strategy) (documents (a .offsets .now) (a .components .now) (a .values .now)) (a .order .now) (a .blocks .now)) (a .keys .now) (a .places .now) (a .maxima .now) (a .entry-counts .now) (a .minimums .now) (a .steps .now)
           (t .last .1 .1 .1 .1 .1 .1 .1 .0) (w .last .0) (t .last .1 .1 .1 .1 .1 .1 .1 .1 .0) (w .last .1 .0) (t .last .1 .1 .1 .1 .1 .1 .1 .1 .1 .0) (w .last .1 .1 .0)
-          (w .ensures .0) (t .kept .1 .1 .1 .1 .1 .1 .1 .0) (w .ensures .1) (t .kept .1 .1 .1 .1 .1 .1 .1 .1 .0) (w .ensures .2) (t .kept .1 .1 .1 .1 .1 .1 .1 .1 .1 .0)
+          (w .ensures .0) (t .kept .1 .1 .1 .1 .1 .1 .1 .0) (w .ensures .1 .0) (t .kept .1 .1 .1 .1 .1 .1 .1 .1 .0) (w .ensures .1 .1) (t .kept .1 .1 .1 .1 .1 .1 .1 .1 .1 .0)
           (at-clear .clear-u64 .last .0) (at-clear .clear-u64 .ensures) (noted (t .last .1 .1 .1 .1 .1 .1 .1 .1 .1 .1 .0) (t .last .1 .1 .1 .1 .1 .1 .1 .1 .1 .1 .1 .0) (t .last .1 .1 .1 .1 .1 .1 .1 .1 .1 .1 .1 .1 .0)) (t .ensures .1),
     )
 

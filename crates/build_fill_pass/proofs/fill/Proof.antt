@@ -46,7 +46,7 @@ returns c =
     let n = limitOf (a .dimension) (length (a .keys .now)) (length (a .places .now)) (length (a .maxima .now)) in
     left-all (tops n (a .strategy) (documents (a .offsets .now) (a .components .now) (a .values .now)) (a .order .now) (a .blocks .now)) (a .keys .now) (a .places .now) (a .maxima .now) (lent (a .cursors .now) (a .summary-ids .now) (a .codes .now))
     (t .last .1 .1 .1 .1 .1 .1 .1 .0) (w .last .0) (t .last .1 .1 .1 .1 .1 .1 .1 .1 .0) (w .last .1 .0) (t .last .1 .1 .1 .1 .1 .1 .1 .1 .1 .0) (w .last .1 .1 .0)
-    (w .ensures .0) (t .kept .1 .1 .1 .1 .1 .1 .1 .0) (w .ensures .1) (t .kept .1 .1 .1 .1 .1 .1 .1 .1 .0) (w .ensures .2) (t .kept .1 .1 .1 .1 .1 .1 .1 .1 .1 .0)
+    (w .ensures .0) (t .kept .1 .1 .1 .1 .1 .1 .1 .0) (w .ensures .1 .0) (t .kept .1 .1 .1 .1 .1 .1 .1 .1 .0) (w .ensures .1 .1) (t .kept .1 .1 .1 .1 .1 .1 .1 .1 .1 .0)
     (lent (t .last .1 .1 .1 .1 .1 .1 .1 .1 .1 .1 .0) (t .last .1 .1 .1 .1 .1 .1 .1 .1 .1 .1 .1 .0) (t .last .1 .1 .1 .1 .1 .1 .1 .1 .1 .1 .1 .1 .0)) (t .ensures)
 
 pub fill-spec : {M : Type 1} → statement M

@@ -100,7 +100,7 @@ returns c =
     (at-clear-output .clear-output .last .1 .1 .1 .1 .1 .1 .0)
     (at-clear-output .clear-output .last .1 .1 .1 .1 .1 .1 .1 .0)) (a .keys .now) (a .places .now) (a .entry-counts .now)
     (at-clear-work .clear-work .last .0) (at-clear-work .clear-work .last .1 .0) (at-clear-work .clear-work .last .1 .1 .1 .0) (a .maxima .now) (at-clear-work .clear-work .last .1 .1 .0)
-    (a .answer) (at-clear-work .clear-work .ensures .0) (at-clear-work .clear-work .ensures .1) (at-clear-work .clear-work .ensures .2) (at-clear-work .clear-work .ensures .3) _
+    (a .answer) (at-clear-work .clear-work .ensures .0) (at-clear-work .clear-work .ensures .1 .0) (at-clear-work .clear-work .ensures .1 .1 .0) (at-clear-work .clear-work .ensures .1 .1 .1) _
     (at-answer .answer .given .1)
     (at-clear-output .clear-output .ensures)
 
@@ -153,8 +153,8 @@ returns-2 c =
     (at-place .place .last .1 .1 .1 .1 .1 .1 .1 .1 .0)
     (at-place .place .last .1 .1 .1 .1 .1 .1 .1 .1 .1 .1 .0) (a .maxima .now)
     (at-place .place .last .1 .1 .1 .1 .1 .1 .1 .1 .1 .0) (a .answer)
-    (at-place .place .ensures .1 .0) (at-place .place .ensures .1 .1)
-    (at-place .place .ensures .1 .2) (at-place .place .ensures .1 .3) _
+    (at-place .place .ensures .1 .0) (at-place .place .ensures .1 .1 .0)
+    (at-place .place .ensures .1 .1 .1 .0) (at-place .place .ensures .1 .1 .1 .1) _
     (at-answer2 .answer2 .given .1)
     (written (at-place .place .last .1 .1 .1 .1 .1 .1 .1 .1 .1 .1 .1 .0)
     (at-place .place .last .1 .1 .1 .1 .1 .1 .1 .1 .1 .1 .1 .1 .0)

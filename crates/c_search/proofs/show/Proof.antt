@@ -26,7 +26,7 @@ returns-2 : tie.Need-returns-2
 returns-2 c = stopped-shows _ _ _ _ (c .before .before .answer2 .given .1) (c .number2 .ensures)
 
 returns-3 : tie.Need-returns-3
-returns-3 c = search needs
+returns-3 c = (search needs, (search needs, (search needs, search needs)))
 
 pub show-spec : {M : Type 1} → statement M
 show-spec =

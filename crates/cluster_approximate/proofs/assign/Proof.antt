@@ -162,22 +162,21 @@ returns c =
     (length (a .starts .now)) (length (a .slots .now)) (length (a .weights .now)) (length (a .sums .now)) (length (a .counts .now)) (length (a .keys .now)) (a .ids .now)
     (a .taken .now)
     (f .last .1 .1 .1 .1 .0) (f .last .1 .1 .1 .1 .1 .0) (f .last .1 .1 .1 .1 .1 .1 .0) (o .result .0) (p .last .1 .1 .1 .1 .1 .1 .1 .1 .1 .1 .1 .1 .1 .0) (z .last .0)
-    (k .last .1 .0) (n .result) (f .ensures) (p .ensures .0) (o .ensures) (z .ensures) (n .ensures) (p .kept .1 .1 .1 .1 .1 .1 .1 .1 .1 .1 .1 .1 .1 .0) (k .ensures) in (
-      assigned-both (documents (a .offsets .now) (a .components .now) (a .values .now)) (a .cut) (a .minimum) (a .centroids .now) (a .known .now) (a .competing .now)
-          (length (a .starts .now)) (length (a .slots .now)) (length (a .weights .now)) (length (a .sums .now)) (length (a .counts .now)) (length (a .keys .now)) (a .ids .now)
-          (a .taken .now)
-          (p .last .1 .1 .1 .1 .1 .1 .1 .1 .1 .1 .1 .1 .1 .0) (k .last .1 .0) (g .last .1 .1 .1 .1 .1 .1 .1 .1 .1 .1 .1 .1 .1 .1 .1 .0) (length (f .last .1 .1 .1 .1 .0))
-          (length (f .last .1 .1 .1 .1 .1 .0)) (length (f .last .1 .1 .1 .1 .1 .1 .0)) (length (p .last .1 .1 .1 .1 .1 .1 .1 .1 .1 .1 .1 .0))
-          (length (p .last .1 .1 .1 .1 .1 .1 .1 .1 .1 .1 .1 .1 .0)) (m .result) (m .ensures) (x .0) (x .1) (p .kept .1 .1 .1 .1 .1 .1 .1 .1 .1 .1 .1 .1 .1 .0)
-          (f .kept .1 .1 .1 .1 .0) (f .kept .1 .1 .1 .1 .1 .0) (f .kept .1 .1 .1 .1 .1 .1 .0) (p .kept .1 .1 .1 .1 .1 .1 .1 .1 .1 .1 .1 .0) (p .kept .1 .1 .1 .1 .1 .1 .1 .1 .1 .1 .1 .1 .0) (g .ensures .0),
-      g .ensures .1,
-      g .ensures .2 ∙ ap (λ n. replicate n 0) (k .kept .1 .0 ∙ z .kept .0),
-      g .ensures .3 ∙ ap (λ n. replicate n 0) (f .kept .1 .1 .1 .1 .0),
-      g .ensures .4 ∙ ap (λ n. replicate n 0) (f .kept .1 .1 .1 .1 .1 .0),
-      g .ensures .5 ∙ ap (λ n. replicate n (fin false 0 (pos 0))) (f .kept .1 .1 .1 .1 .1 .1 .0),
-      g .ensures .6 ∙ ap (λ n. replicate n (fin false 0 (pos 0))) (p .kept .1 .1 .1 .1 .1 .1 .1 .1 .1 .1 .1 .0),
-      g .ensures .7 ∙ ap (λ n. replicate n 0) (p .kept .1 .1 .1 .1 .1 .1 .1 .1 .1 .1 .1 .1 .0),
-    )
+    (k .last .1 .0) (n .result) (f .ensures) (p .ensures .0) (o .ensures) (z .ensures) (n .ensures) (p .kept .1 .1 .1 .1 .1 .1 .1 .1 .1 .1 .1 .1 .1 .0) (k .ensures) in
+    let taken = assigned-both (documents (a .offsets .now) (a .components .now) (a .values .now)) (a .cut) (a .minimum) (a .centroids .now) (a .known .now) (a .competing .now)
+    (length (a .starts .now)) (length (a .slots .now)) (length (a .weights .now)) (length (a .sums .now)) (length (a .counts .now)) (length (a .keys .now)) (a .ids .now)
+    (a .taken .now)
+    (p .last .1 .1 .1 .1 .1 .1 .1 .1 .1 .1 .1 .1 .1 .0) (k .last .1 .0) (g .last .1 .1 .1 .1 .1 .1 .1 .1 .1 .1 .1 .1 .1 .1 .1 .0) (length (f .last .1 .1 .1 .1 .0))
+    (length (f .last .1 .1 .1 .1 .1 .0)) (length (f .last .1 .1 .1 .1 .1 .1 .0)) (length (p .last .1 .1 .1 .1 .1 .1 .1 .1 .1 .1 .1 .0))
+    (length (p .last .1 .1 .1 .1 .1 .1 .1 .1 .1 .1 .1 .1 .0)) (m .result) (m .ensures) (x .0) (x .1) (p .kept .1 .1 .1 .1 .1 .1 .1 .1 .1 .1 .1 .1 .1 .0)
+    (f .kept .1 .1 .1 .1 .0) (f .kept .1 .1 .1 .1 .1 .0) (f .kept .1 .1 .1 .1 .1 .1 .0) (p .kept .1 .1 .1 .1 .1 .1 .1 .1 .1 .1 .1 .0) (p .kept .1 .1 .1 .1 .1 .1 .1 .1 .1 .1 .1 .1 .0) (g .ensures .0) in
+    let counts = g .ensures .1 .1 .0 ∙ ap (λ n. replicate n 0) (k .kept .1 .0 ∙ z .kept .0) in
+    let starts = g .ensures .1 .1 .1 .0 ∙ ap (λ n. replicate n 0) (f .kept .1 .1 .1 .1 .0) in
+    let slots = g .ensures .1 .1 .1 .1 .0 ∙ ap (λ n. replicate n 0) (f .kept .1 .1 .1 .1 .1 .0) in
+    let weights = g .ensures .1 .1 .1 .1 .1 .0 ∙ ap (λ n. replicate n (fin false 0 (pos 0))) (f .kept .1 .1 .1 .1 .1 .1 .0) in
+    let sums = g .ensures .1 .1 .1 .1 .1 .1 .0 ∙ ap (λ n. replicate n (fin false 0 (pos 0))) (p .kept .1 .1 .1 .1 .1 .1 .1 .1 .1 .1 .1 .0) in
+    let keys = g .ensures .1 .1 .1 .1 .1 .1 .1 ∙ ap (λ n. replicate n 0) (p .kept .1 .1 .1 .1 .1 .1 .1 .1 .1 .1 .1 .1 .0) in
+    (taken, (g .ensures .1 .0, (counts, (starts, (slots, (weights, (sums, keys)))))))
 
 pub assign-spec : {M : Type 1} → statement M
 assign-spec =

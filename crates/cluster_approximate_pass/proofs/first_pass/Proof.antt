@@ -151,8 +151,10 @@ returns c =
           (at-shorter .shorter .result) (l .inv .4) (at-shorter .shorter .ensures) (omega (arith, l .inv .3, after-loop .loop-test .left))
           ∙ ap (λ n. over (λ i r. rankIn (a .known .now) (nearlyChoice (a .cut) (a .first .0) (a .competing .now) (documents (a .starts .now) (a .slots .now) (a .weights .now)) (n)
           (length (a .keys .now)) (documents (a .offsets .now) (a .components .now) (a .values .now)) i)) (a .ids .now) (a .taken .now)) (z .kept .0),
-      l .inv .5 ∙ ap (λ n. replicate n none) (z .kept .0),
-      c .before .before .clear-u64 .ensures ∙ ap (λ n. replicate n 0) (l .inv .1),
+      (
+        l .inv .5 ∙ ap (λ n. replicate n none) (z .kept .0),
+        c .before .before .clear-u64 .ensures ∙ ap (λ n. replicate n 0) (l .inv .1),
+      ),
     )
 
 pub first-pass-spec : {M : Type 1} → statement M

@@ -174,8 +174,10 @@ returns c =
           ∙ ap (λ n. over (againRank (a .known .now) (a .counts .now) (a .minimum) (a .cut) (a .first .0) (a .competing .now)
           (documents (a .starts .now) (a .slots .now) (a .weights .now)) n (length (a .keys .now)) (documents (a .offsets .now) (a .components .now) (a .values .now)))
           (a .ids .now) (a .taken .now)) (z .kept .0),
-      l .inv .5 ∙ ap (λ n. replicate n none) (z .kept .0),
-      c .before .before .clear-u64 .ensures ∙ ap (λ n. replicate n 0) (l .inv .1),
+      (
+        l .inv .5 ∙ ap (λ n. replicate n none) (z .kept .0),
+        c .before .before .clear-u64 .ensures ∙ ap (λ n. replicate n 0) (l .inv .1),
+      ),
     )
 
 pub second-pass-spec : {M : Type 1} → statement M

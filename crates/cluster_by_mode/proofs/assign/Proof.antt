@@ -99,20 +99,13 @@ returns c =
     let at-shorter2 = shorter2-of at-sort-into in
     let at-shorter = shorter-of at-shorter2 in
     let start = start-of at-shorter in
-    let a = start .args in let f = at-take-by .take-by in let k = at-sort-into .sort-into in (
-      taken-by (a .algorithm) (documents (a .offsets .now) (a .components .now) (a .values .now)) (a .minimum) (a .centroids .now) (a .known .now) (k .last .1 .0)
-          (length (a .competing .now)) (length (a .starts .now)) (length (a .slots .now)) (length (a .weights .now)) (length (a .sums .now)) (length (a .counts .now))
-          (length (a .keys .now)) (take (length (a .taken .now)) (a .ids .now)) (drop (length (a .ids .now)) (a .taken .now)) (f .last .1 .1 .1 .1 .1 .1 .1 .1 .1 .1 .1 .1 .1 .1 .1 .0)
-          (at-shorter .shorter .result) (at-shorter2 .shorter2 .result) (at-shorter .shorter .ensures) (at-shorter2 .shorter2 .ensures) (k .ensures) (f .ensures .0),
-      c .before .before .clear-u64 .ensures ∙ ap (λ n. replicate n 0) (k .kept .1 .0),
-      f .ensures .1,
-      f .ensures .2,
-      f .ensures .3,
-      f .ensures .4,
-      f .ensures .5,
-      f .ensures .6,
-      f .ensures .7,
-    )
+    let a = start .args in let f = at-take-by .take-by in let k = at-sort-into .sort-into in
+    let taken = taken-by (a .algorithm) (documents (a .offsets .now) (a .components .now) (a .values .now)) (a .minimum) (a .centroids .now) (a .known .now) (k .last .1 .0)
+    (length (a .competing .now)) (length (a .starts .now)) (length (a .slots .now)) (length (a .weights .now)) (length (a .sums .now)) (length (a .counts .now))
+    (length (a .keys .now)) (take (length (a .taken .now)) (a .ids .now)) (drop (length (a .ids .now)) (a .taken .now)) (f .last .1 .1 .1 .1 .1 .1 .1 .1 .1 .1 .1 .1 .1 .1 .1 .0)
+    (at-shorter .shorter .result) (at-shorter2 .shorter2 .result) (at-shorter .shorter .ensures) (at-shorter2 .shorter2 .ensures) (k .ensures) (f .ensures .0) in
+    let known = c .before .before .clear-u64 .ensures ∙ ap (λ n. replicate n 0) (k .kept .1 .0) in
+    (taken, (known, f .ensures .1))
 
 pub assign-spec : {M : Type 1} → statement M
 assign-spec =

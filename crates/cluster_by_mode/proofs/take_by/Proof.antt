@@ -78,18 +78,11 @@ returns c =
     let at-assign = assign-of at-clear-u64 in
     let at-enum-told = enum-told-of at-assign in
     let start = start-before-enum-told at-enum-told in
-    let a = start .args in let f = at-assign .assign in (
-      f .ensures .0 ∙ ap (λ g. ranksBy g (documents (a .offsets .now) (a .components .now) (a .values .now)) (a .minimum) (a .centroids .now) (a .known .now)
-          (length (a .competing .now)) (length (a .starts .now)) (length (a .slots .now)) (length (a .weights .now)) (length (a .sums .now)) (length (a .counts .now))
-          (length (a .keys .now)) (take (length (a .taken .now)) (a .ids .now)) ++ drop (length (a .ids .now)) (a .taken .now)) (sym (at-enum-told .enum-told .given .1)),
-      at-clear-u64 .clear-u64 .ensures,
-      f .ensures .1,
-      f .ensures .2,
-      f .ensures .3,
-      f .ensures .4,
-      f .ensures .5,
-      c .before .before .clear-u642 .ensures,
-    )
+    let a = start .args in let f = at-assign .assign in
+    let taken = f .ensures .0 ∙ ap (λ g. ranksBy g (documents (a .offsets .now) (a .components .now) (a .values .now)) (a .minimum) (a .centroids .now) (a .known .now)
+    (length (a .competing .now)) (length (a .starts .now)) (length (a .slots .now)) (length (a .weights .now)) (length (a .sums .now)) (length (a .counts .now))
+    (length (a .keys .now)) (take (length (a .taken .now)) (a .ids .now)) ++ drop (length (a .ids .now)) (a .taken .now)) (sym (at-enum-told .enum-told .given .1)) in
+    (taken, (at-clear-u64 .clear-u64 .ensures, (f .ensures .1 .0, (f .ensures .1 .1 .0, (f .ensures .1 .1 .1 .0, (f .ensures .1 .1 .1 .1 .0, (f .ensures .1 .1 .1 .1 .1, c .before .before .clear-u642 .ensures)))))))
 
 same-length-9 : tie.Need-same-length-9
 same-length-9 c = let at-assign2 = assign2-of c in at-assign2 .assign2 .kept .1 .1 .1 .1 .1 .1 .1 .1 .0
@@ -120,18 +113,11 @@ returns-2 c =
     let at-assign2 = assign2-of c in
     let at-algorithm = algorithm-of at-assign2 in
     let start = start-before-algorithm at-algorithm in
-    let a = start .args in let f = at-assign2 .assign2 in (
-      f .ensures .0 ∙ ap (λ g. ranksBy g (documents (a .offsets .now) (a .components .now) (a .values .now)) (a .minimum) (a .centroids .now) (a .known .now)
-          (length (a .competing .now)) (length (a .starts .now)) (length (a .slots .now)) (length (a .weights .now)) (length (a .sums .now)) (length (a .counts .now))
-          (length (a .keys .now)) (take (length (a .taken .now)) (a .ids .now)) ++ drop (length (a .ids .now)) (a .taken .now)) (sym (at-algorithm .algorithm .given .1)),
-      f .ensures .1,
-      f .ensures .2,
-      f .ensures .3,
-      f .ensures .4,
-      f .ensures .5,
-      f .ensures .6,
-      f .ensures .7,
-    )
+    let a = start .args in let f = at-assign2 .assign2 in
+    let taken = f .ensures .0 ∙ ap (λ g. ranksBy g (documents (a .offsets .now) (a .components .now) (a .values .now)) (a .minimum) (a .centroids .now) (a .known .now)
+    (length (a .competing .now)) (length (a .starts .now)) (length (a .slots .now)) (length (a .weights .now)) (length (a .sums .now)) (length (a .counts .now))
+    (length (a .keys .now)) (take (length (a .taken .now)) (a .ids .now)) ++ drop (length (a .ids .now)) (a .taken .now)) (sym (at-algorithm .algorithm .given .1)) in
+    (taken, f .ensures .1)
 
 pub take-by-spec : {M : Type 1} → statement M
 take-by-spec =

@@ -120,18 +120,18 @@ returns c =
     let m = at-shorter2 .shorter2 in
     let n = at-shorter .shorter in
     let d = documents (a .offsets .now) (a .components .now) (a .values .now) in
-    let l : length (take (m .result) (a .sums .now)) ≡ min (length (a .centroids .now)) (length (a .sums .now)) = length-take-le (m .result) (a .sums .now) (omega (arith, m .ensures)) ∙ m .ensures in (
-      assigned-cut d (a .minimum) (a .centroids .now) (a .known .now) (length (a .starts .now)) (length (a .slots .now)) (length (a .weights .now))
-          (min (length (a .centroids .now)) (length (a .sums .now))) (length (a .counts .now)) (a .ids .now) (a .taken .now) (n .result)
-          (f .last .1 .1 .1 .1 .1 .1 .1 .1 .1 .1 .1 .1 .0) (n .ensures)
-          (f .ensures ∙ ap (λ w. exactRanks d (a .minimum) (a .centroids .now) (a .known .now) (length (a .starts .now)) (length (a .slots .now)) (length (a .weights .now)) w
-          (length (a .counts .now)) (take (n .result) (a .ids .now)) ++ drop (length (take (n .result) (a .ids .now))) (a .taken .now)) l),
-      g .ensures .0 ∙ ap (λ n. replicate n 0) (f .kept .1 .1 .1 .1 .1 .1 .1 .0),
-      g .ensures .1 ∙ ap (λ n. replicate n 0) (f .kept .1 .1 .1 .1 .1 .1 .1 .1 .0),
-      g .ensures .2 ∙ ap (λ n. replicate n 0) (f .kept .1 .1 .1 .1 .1 .1 .1 .1 .1 .0),
-      g .ensures .3 ∙ ap (λ n. replicate n (fin false 0 (pos 0))) (f .kept .1 .1 .1 .1 .1 .1 .1 .1 .1 .1 .0),
-      g .ensures .4 ∙ ap (λ n. replicate n (fin false 0 (pos 0))) (front-length (a .sums .now) (f .last .1 .1 .1 .1 .1 .1 .1 .1 .1 .1 .1 .0) (m .result) (omega (arith, m .ensures)) (f .kept .1 .1 .1 .1 .1 .1 .1 .1 .1 .1 .1 .0)),
-    )
+    let l : length (take (m .result) (a .sums .now)) ≡ min (length (a .centroids .now)) (length (a .sums .now)) = length-take-le (m .result) (a .sums .now) (omega (arith, m .ensures)) ∙ m .ensures in
+    let taken = assigned-cut d (a .minimum) (a .centroids .now) (a .known .now) (length (a .starts .now)) (length (a .slots .now)) (length (a .weights .now))
+    (min (length (a .centroids .now)) (length (a .sums .now))) (length (a .counts .now)) (a .ids .now) (a .taken .now) (n .result)
+    (f .last .1 .1 .1 .1 .1 .1 .1 .1 .1 .1 .1 .1 .0) (n .ensures)
+    (f .ensures ∙ ap (λ w. exactRanks d (a .minimum) (a .centroids .now) (a .known .now) (length (a .starts .now)) (length (a .slots .now)) (length (a .weights .now)) w
+    (length (a .counts .now)) (take (n .result) (a .ids .now)) ++ drop (length (take (n .result) (a .ids .now))) (a .taken .now)) l) in
+    let counts = g .ensures .0 ∙ ap (λ n. replicate n 0) (f .kept .1 .1 .1 .1 .1 .1 .1 .0) in
+    let starts = g .ensures .1 .0 ∙ ap (λ n. replicate n 0) (f .kept .1 .1 .1 .1 .1 .1 .1 .1 .0) in
+    let slots = g .ensures .1 .1 .0 ∙ ap (λ n. replicate n 0) (f .kept .1 .1 .1 .1 .1 .1 .1 .1 .1 .0) in
+    let weights = g .ensures .1 .1 .1 .0 ∙ ap (λ n. replicate n (fin false 0 (pos 0))) (f .kept .1 .1 .1 .1 .1 .1 .1 .1 .1 .1 .0) in
+    let sums = g .ensures .1 .1 .1 .1 ∙ ap (λ n. replicate n (fin false 0 (pos 0))) (front-length (a .sums .now) (f .last .1 .1 .1 .1 .1 .1 .1 .1 .1 .1 .1 .0) (m .result) (omega (arith, m .ensures)) (f .kept .1 .1 .1 .1 .1 .1 .1 .1 .1 .1 .1 .0)) in
+    (taken, (counts, (starts, (slots, (weights, sums)))))
 
 pub assign-spec : {M : Type 1} → statement M
 assign-spec =

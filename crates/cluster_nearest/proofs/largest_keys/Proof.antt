@@ -61,8 +61,10 @@ returns c =
     let n : s .result ≡ min (length ts) (length (a .keys .now)) = s .ensures .0 ∙ ap (λ l. min (length l) (length (a .keys .now))) (sym h) in
     let held = held-terms d (a .id .0) (λ k. at-shared-slice-known2 .shared-slice-known2 .given k .fits) (λ k. at-shared-slice-known3 .shared-slice-known3 .given k) in (
       keys,
-      m .ensures ∙ ap (min (a .cut)) n,
-      ap (λ l. map termOf (take (m .result) l)) keys ∙ largest-keys ts held (a .keys .now) (a .cut) (s .result) (m .result) n (m .ensures),
+      (
+        m .ensures ∙ ap (min (a .cut)) n,
+        ap (λ l. map termOf (take (m .result) l)) keys ∙ largest-keys ts held (a .keys .now) (a .cut) (s .result) (m .result) n (m .ensures),
+      ),
     )
 
 pub largest-keys-spec : {M : Type 1} → statement M

@@ -114,20 +114,20 @@ returns c =
     let w = steps-are (a .algorithm) (documents (a .offsets .now) (a .components .now) (a .values .now)) (a .minimum) (a .ids .now) (a .centroids .now)
     (scratches (a .order .now) (a .blocks .now) (a .sorted .now) (a .known .now) (a .taken .now) (a .counts .now) (a .starts .now) (a .slots .now) (a .weights .now) (a .sums .now) (a .keys .now))
     (at-shorter .shorter .result) (at-shorter2 .shorter2 .result) (at-shorter .shorter .ensures) (at-shorter2 .shorter2 .ensures)
-    (k .last .1 .0) (f .last .1 .1 .1 .1 .1 .1 .1 .1 .1 .1 .1 .1 .1 .1 .1 .0) (f .last .1 .1 .1 .1 .1 .1 .1 .1 .1 .0) (f .last .1 .1 .1 .1 .1 .1 .1 .1 .0) (k .ensures) (f .ensures .0) (f .ensures .3) (f .ensures .2) in (
+    (k .last .1 .0) (f .last .1 .1 .1 .1 .1 .1 .1 .1 .1 .1 .1 .1 .1 .1 .1 .0) (f .last .1 .1 .1 .1 .1 .1 .1 .1 .1 .0) (f .last .1 .1 .1 .1 .1 .1 .1 .1 .0) (k .ensures) (f .ensures .0) (f .ensures .1 .1 .1 .0) (f .ensures .1 .1 .0) in (
       g .ensures .0 ∙ ap (λ (x : Grouped). x .count) w,
       λ j. scratches
-          ((g .ensures .1 ∙ ap (λ (x : Grouped). x .order) w) j)
-          ((g .ensures .2 ∙ ap (λ (x : Grouped). x .blocks) w) j)
-          ((g .ensures .3 ∙ ap (λ n. replicate n 0) (k .kept .1 .0)) j)
-          (f .ensures .1 j)
-          ((g .ensures .4 ∙ ap (λ n. replicate n 0) (f .kept .1 .1 .1 .1 .1 .1 .1 .1 .1 .1 .1 .1 .1 .1 .1 .0)) j)
-          ((g .ensures .5 ∙ ap (λ n. replicate n 0) (f .kept .1 .1 .1 .1 .1 .1 .1 .1 .1 .0)) j)
-          (f .ensures .4 j)
-          (f .ensures .5 j)
-          (f .ensures .6 j)
-          (f .ensures .7 j)
-          (f .ensures .8 j),
+          ((g .ensures .1 .0 ∙ ap (λ (x : Grouped). x .order) w) j)
+          ((g .ensures .1 .1 .0 ∙ ap (λ (x : Grouped). x .blocks) w) j)
+          ((g .ensures .1 .1 .1 .0 ∙ ap (λ n. replicate n 0) (k .kept .1 .0)) j)
+          (f .ensures .1 .0 j)
+          ((g .ensures .1 .1 .1 .1 .0 ∙ ap (λ n. replicate n 0) (f .kept .1 .1 .1 .1 .1 .1 .1 .1 .1 .1 .1 .1 .1 .1 .1 .0)) j)
+          ((g .ensures .1 .1 .1 .1 .1 ∙ ap (λ n. replicate n 0) (f .kept .1 .1 .1 .1 .1 .1 .1 .1 .1 .0)) j)
+          (f .ensures .1 .1 .1 .1 .0 j)
+          (f .ensures .1 .1 .1 .1 .1 .0 j)
+          (f .ensures .1 .1 .1 .1 .1 .1 .0 j)
+          (f .ensures .1 .1 .1 .1 .1 .1 .1 .0 j)
+          (f .ensures .1 .1 .1 .1 .1 .1 .1 .1 j),
     )
 
 pub cluster-spec : {M : Type 1} → statement M

@@ -60,14 +60,12 @@ returns c =
     let at-clear-u642 = clear-u642-of c in
     let at-clear-u64 = clear-u64-of at-clear-u642 in
     let at-group-some = group-some-of at-clear-u64 in
-    let g = at-group-some .group-some in (
-      ap (λ (x : Grouped). x .count) (g .ensures),
-      ap (λ (x : Grouped). x .order) (g .ensures),
-      ap (λ (x : Grouped). x .blocks) (g .ensures),
-      at-clear-u64 .clear-u64 .ensures,
-      at-clear-u642 .clear-u642 .ensures,
-      c .before .before .clear-u643 .ensures ∙ ap (λ n. replicate n 0) (g .kept .1 .1 .1 .0),
-    )
+    let g = at-group-some .group-some in
+    let answer = ap (λ (x : Grouped). x .count) (g .ensures) in
+    let order = ap (λ (x : Grouped). x .order) (g .ensures) in
+    let blocks = ap (λ (x : Grouped). x .blocks) (g .ensures) in
+    let counts = c .before .before .clear-u643 .ensures ∙ ap (λ n. replicate n 0) (g .kept .1 .1 .1 .0) in
+    (answer, (order, (blocks, (at-clear-u64 .clear-u64 .ensures, (at-clear-u642 .clear-u642 .ensures, counts)))))
 
 pub group-and-clear-spec : {M : Type 1} → statement M
 group-and-clear-spec =

@@ -139,20 +139,17 @@ returns c =
     let at-fill = fill-of at-first-of in
     let at-gather = gather-of at-fill in
     let start = start-of at-gather in
-    let a = start .args in let f = at-fill .fill in let g = at-gather .gather in let p = at-second-pass .second-pass in (
-      assigned-again (documents (a .offsets .now) (a .components .now) (a .values .now)) (a .cut) (a .minimum) (a .centroids .now) (a .known .now) (length (a .starts .now))
-          (length (a .slots .now)) (length (a .weights .now)) (length (a .sums .now)) (length (a .keys .now)) (a .ids .now) (a .counts .now) (a .taken .now)
-          (take (g .result) (g .last .1 .1 .1 .1 .0))
-          (f .last .1 .1 .1 .1 .0) (f .last .1 .1 .1 .1 .1 .0) (f .last .1 .1 .1 .1 .1 .1 .0) (at-first-of .first-of .result .0)
-          (p .last .1 .1 .1 .1 .1 .1 .1 .1 .1 .1 .1 .1 .1 .1 .1 .0) (g .ensures .0) (f .ensures) (at-first-of .first-of .ensures) (p .ensures .0),
-      at-clear-u64 .clear-u64 .ensures ∙ ap (λ n. replicate n 0) (g .kept .1 .1 .1 .1 .0),
-      at-clear-u642 .clear-u642 .ensures,
-      at-clear-u643 .clear-u643 .ensures ∙ ap (λ n. replicate n 0) (f .kept .1 .1 .1 .1 .0),
-      at-clear-u644 .clear-u644 .ensures ∙ ap (λ n. replicate n 0) (f .kept .1 .1 .1 .1 .1 .0),
-      c .before .before .clear-f32 .ensures ∙ ap (λ n. replicate n (fin false 0 (pos 0))) (f .kept .1 .1 .1 .1 .1 .1 .0),
-      p .ensures .1,
-      p .ensures .2,
-    )
+    let a = start .args in let f = at-fill .fill in let g = at-gather .gather in let p = at-second-pass .second-pass in
+    let taken = assigned-again (documents (a .offsets .now) (a .components .now) (a .values .now)) (a .cut) (a .minimum) (a .centroids .now) (a .known .now) (length (a .starts .now))
+    (length (a .slots .now)) (length (a .weights .now)) (length (a .sums .now)) (length (a .keys .now)) (a .ids .now) (a .counts .now) (a .taken .now)
+    (take (g .result) (g .last .1 .1 .1 .1 .0))
+    (f .last .1 .1 .1 .1 .0) (f .last .1 .1 .1 .1 .1 .0) (f .last .1 .1 .1 .1 .1 .1 .0) (at-first-of .first-of .result .0)
+    (p .last .1 .1 .1 .1 .1 .1 .1 .1 .1 .1 .1 .1 .1 .1 .1 .0) (g .ensures .0) (f .ensures) (at-first-of .first-of .ensures) (p .ensures .0) in
+    let competing = at-clear-u64 .clear-u64 .ensures ∙ ap (λ n. replicate n 0) (g .kept .1 .1 .1 .1 .0) in
+    let starts = at-clear-u643 .clear-u643 .ensures ∙ ap (λ n. replicate n 0) (f .kept .1 .1 .1 .1 .0) in
+    let slots = at-clear-u644 .clear-u644 .ensures ∙ ap (λ n. replicate n 0) (f .kept .1 .1 .1 .1 .1 .0) in
+    let weights = c .before .before .clear-f32 .ensures ∙ ap (λ n. replicate n (fin false 0 (pos 0))) (f .kept .1 .1 .1 .1 .1 .1 .0) in
+    (taken, (competing, (at-clear-u642 .clear-u642 .ensures, (starts, (slots, (weights, p .ensures .1))))))
 
 pub assign-again-spec : {M : Type 1} → statement M
 assign-again-spec =
