@@ -1,75 +1,70 @@
 // The tour: a few plan pages, posting lists built of them, and questions. It shows which pages a search finds, and for every other page
 // of the list the rule by which it was not kept. It reads nothing.
-mod list;
 mod pages;
 mod story;
 mod text;
 
-use list::Question;
 use pages::Documents;
-use story::say_term;
+use story::Question;
+use text::most;
 use text::say;
 use text::say_one;
+use text::say_with;
 
-// The searches to tell, a column for each: the bay asked for, the list's first and last page, its block size, and the heap factor.
-const BAYS: [u32; 4] = [pages::BAY_4, pages::BAY_4, pages::BAY_6, pages::BAY_6];
+// The bay asked for, the list's first and last page, its block size, and the heap factor.
+struct Row(u64, u64, u64, u64, f32);
 
-const FIRST: [u64; 4] = [0, 0, 9, 9];
+// The searches to tell.
+const SEARCHES: [Row; 4] = [
+    Row(pages::BAY_4, 0, 8, 3, 0.75),
+    Row(pages::BAY_4, 0, 8, 3, 0.0),
+    Row(pages::BAY_6, 9, 10, 3, 0.75),
+    Row(pages::BAY_6, 9, 10, 2, 0.75),
+];
 
-const LAST: [u64; 4] = [8, 8, 10, 10];
-
-const BLOCK_SIZES: [u64; 4] = [3, 3, 3, 2];
-
-const FACTORS: [f32; 4] = [0.75, 0.0, 0.75, 0.75];
-
-fn say_question(bay: u32) {
-    say(b"\nQuestion: what is planned in ");
-    say_term(bay);
-    say(b"?   weights: ");
-    say_term(bay);
-    say(b" 1, planned 2\n");
-}
-
-// The search with this number, after its question where the one before was of another bay; its bay.
-fn tell_next(n: usize, before: u32, documents: Documents) -> u32 {
-    if n < 4 {
-        let bay = BAYS[n];
-        if bay != before {
-            say_question(bay);
-        }
-        let question = Question {
-            bay,
-            first: FIRST[n],
-            last: LAST[n],
-            block_size: BLOCK_SIZES[n],
-            factor: FACTORS[n],
-        };
-        story::tell(question, documents);
-        return bay;
+// A search told, after its question where the one before was of another bay; its bay.
+fn tell_next(row: Row, before: u64, documents: Documents) -> u64 {
+    let bay = row.0;
+    if bay != before {
+        let text: &[u8] = b"\nQuestion: what is planned in @?   weights: @ 1, planned 2\n";
+        say_with(text, bay, bay, 0, 0);
     }
-    before
+    let offsets = documents.offsets;
+    let components = documents.components;
+    let values = documents.values;
+    let question = Question {
+        bay,
+        first: row.1,
+        last: row.2,
+        block_size: row.3,
+        factor: row.4,
+    };
+    let ids = [0, 1, 2, 3, 4, 5, 6, 7, 8, 9, 10];
+    let end = most(
+        std::num::wrapping_add_u64(question.last, 1),
+        pages::PAGE_COUNT,
+    );
+    let first = most(question.first, end);
+    story::tell(question, &offsets, &components, &values, &ids[first..end]);
+    bay
 }
 
 fn tell_all(documents: Documents) {
     let mut bay = pages::BLANK;
     let mut n = 0usize;
     while n < 4 {
-        bay = tell_next(n, bay, documents);
+        bay = tell_next(SEARCHES[n], bay, documents);
         n += 1;
     }
 }
 
-fn say_if_named(page: u64, bay: u32) {
-    if pages::has(page, bay) {
-        say_one(b"# ", page);
-    }
-}
-
 // The pages that name a bay.
-fn say_naming(bay: u32) {
+fn say_naming(bay: u64) {
     let mut page = 0u64;
-    while page < pages::PAGE_COUNT {
-        say_if_named(page, bay);
+    while page < pages::PAGE_COUNT as u64 {
+        if pages::has(page, bay) {
+            say_one(b"# ", page);
+        }
         page += 1;
     }
 }

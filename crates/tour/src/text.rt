@@ -1,4 +1,7 @@
-// Text on standard output. In a text with numbers `#` stands for the next number, and `%` for the next one in hundredths.
+// Text on standard output. In a text with numbers `#` stands for the next one, `~` for it in a column of two, `%` for it in hundredths,
+// `@` for the name of the term or state with that number, and `&` for the name in a column.
+use crate::pages;
+ghost use Prim.Native.Nat.{_≤_};
 
 pub(crate) fn say(text: &[u8]) {
     io::write_all(1, text);
@@ -8,6 +11,13 @@ fn say_number(n: u64) {
     io::print_decimal(1, n);
 }
 
+fn say_column(n: u64) {
+    if n < 10 {
+        say(b" ");
+    }
+    say_number(n);
+}
+
 fn say_hundredths(n: u64) {
     say_number(n / 100);
     say(b".");
@@ -15,14 +25,49 @@ fn say_hundredths(n: u64) {
     say_number(n % 10);
 }
 
-// One byte of a text, or the number that it stands for; whether it stands for one.
+// As many as are said, and no more than there are.
+pub(crate) fn most(count: u64, there: usize) -> usize
+    ensures { λ r. ⌜ r ≤ there ⌝ }
+{
+    let n = count as usize;
+    if n <= there { n } else { there }
+}
+
+fn say_name(term: u64) {
+    match term {
+        pages::BAY_4 => say(b"bay 4"),
+        pages::BAY_6 => say(b"bay 6"),
+        pages::PLANNED => say(b"planned"),
+        pages::IN_PROGRESS => say(b"in progress"),
+        pages::COMPLETED => say(b"completed"),
+        _ => say(b"blank"),
+    }
+}
+
+fn say_padded(state: u64) {
+    say_name(state);
+    match state {
+        pages::PLANNED => say(b"    "),
+        pages::COMPLETED => say(b"  "),
+        pages::BLANK => say(b"      "),
+        _ => say(b""),
+    }
+}
+
+// One byte of a text, or what it stands for; whether it stands for a number.
 fn say_byte(byte: u8, n: u64) -> bool {
     match byte {
         b'#' => say_number(n),
+        b'~' => say_column(n),
         b'%' => say_hundredths(n),
-        _ => say(&[byte]),
+        b'@' => say_name(n),
+        b'&' => say_padded(n),
+        _ => {
+            say(&[byte]);
+            return false;
+        }
     }
-    (byte == b'#') | (byte == b'%')
+    true
 }
 
 // A text with at most four numbers.
