@@ -114,9 +114,9 @@ uint64_t merino_search(
 
    The result, in eight buffers, as merino_search takes it under the same names, and how long it is:
    postings                  postings_written
-   block_offsets             offsets_written: one more than there are blocks, or 0 for clusters of an empty list
-   summary_components        components_written
-   component_offsets         components_written + 1
+   block_offsets             block_offsets_written: one more than there are blocks, or 0 for clusters of an empty list
+   summary_components        summary_components_written
+   component_offsets         summary_components_written + 1
    summary_ids, codes        entries_written each
    minimums, steps           summaries_written each: as many as there are blocks
 
@@ -173,8 +173,8 @@ uint64_t merino_build(
     float *sums, size_t sums_len,
     uint64_t *keys, size_t keys_len,
     uint64_t *postings_written,
-    uint64_t *offsets_written,
-    uint64_t *components_written,
+    uint64_t *block_offsets_written,
+    uint64_t *summary_components_written,
     uint64_t *entries_written,
     uint64_t *summaries_written);
 

@@ -1,7 +1,7 @@
 -- What fixed blocking answers, with what it leaves in the lent buffer, in one statement.
 use Prim.Native.Nat.{ℕ}
 use mathlib.Core.Path.{_≡_}
-use mathlib.Core.List.{List, []}
+use mathlib.Core.List.{List}
 use Rattle.blocking.specs.declared.BlockingAnswer.{BlockingAnswer}
 use Rattle.blocking.specs.Blocking.{blocked, offsetsLeft}
 

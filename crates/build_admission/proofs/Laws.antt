@@ -5,8 +5,8 @@ use native.Mathlib.Numerals.{add-one}
 use mathlib.Core.Path.{_≡_, sym, ap, _∙_}
 use mathlib.Core.Bool.{Bool, true, false, not, _&&_, _||_, and-true, and-assoc}
 use mathlib.Core.List.{List, [], _++_}
-use lib.ListN.{length, getD, take, drop}
-use lib.Seq.{drop-cons, drop-length, take-length}
+use lib.ListN.{length, getD, drop}
+use lib.Seq.{drop-cons, drop-length}
 use lib.Dec.{leb, ltb, eqb}
 use lib.Ieee.{Float}
 use borrow.Author.Tests.{eq-eqb, ne-eqb}
@@ -28,7 +28,7 @@ use Rattle.documents.specs.declared.DocumentRange.{DocumentRange}
 use Rattle.documents.specs.Answers.{rangeOf}
 use Rattle.build_admission.specs.declared.RangesFit.{RangesFit}
 use Rattle.build_admission.specs.Admission.{centroidsUsed, wrongCentroids, blockingFaults, startsFit, lengthsFit, inputTests}
-use Rattle.build_admission.specs.Answers.{rangesFit, takenOf}
+use Rattle.build_admission.specs.Answers.{rangesFit}
 
 -- ---- two lists, one after the other
 pub ids-both : (n : ℕ) (a b : List ℕ) → idsHold n (a ++ b) ≡ (idsHold n a && idsHold n b)
@@ -64,14 +64,6 @@ module _ (d : Documents) (ids cs : List ℕ) where
   terms-left n r f e = rw (terms-both n d ids cs, f) e
 
 -- ---- centroids
-pub used-are : (k : BlockingStrategy) (cs : List ℕ) (t : ℕ) → t ≡ takenOf k (length cs) → take t cs ≡ centroidsUsed k cs
-used-are (FixedSize size) cs t e = rw e
-used-are (RandomKmeans fraction minimum algorithm) cs t e = rw (e, take-length)
-
-pub taken-long : (k : BlockingStrategy) (cs : List ℕ) (t : ℕ) → t ≡ takenOf k (length cs) → t ≡ length (take t cs)
-taken-long (FixedSize size) cs t e = rw e
-taken-long (RandomKmeans fraction minimum algorithm) cs t e = rw (e, take-length)
-
 pub none-asked : (f : Float) (n l : ℕ) → n ≡ 0 → false ≡ wrongCentroids f n l
 none-asked f n l e = rw (eq-eqb n 0 e)
 

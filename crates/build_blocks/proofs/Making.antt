@@ -5,7 +5,7 @@ use native.Mathlib.Nat.{div-le-self}
 use mathlib.Core.Path.{_≡_, refl, sym, ap, _∙_, subst}
 use mathlib.Core.Bool.{true, false, not}
 use mathlib.Core.List.{List, [], _∷_, _++_, map}
-use lib.ListN.{length, replicate, length-append, length-map, length-replicate}
+use lib.ListN.{length, length-append, length-map, length-replicate}
 use lib.IntN.{pos}
 use lib.Dec.{leb}
 use lib.Ieee.{Float, fin}
@@ -14,13 +14,13 @@ use Rattle.refusal.specs.declared.Refusal.{Refusal}
 use Rattle.refusal.specs.declared.Refusal.the-variants.{BufferTooShort}
 use Rattle.refusal.specs.declared.Verdict.{Verdict}
 use Rattle.refusal.specs.declared.Verdict.the-variants as verdict
-use Rattle.refusal.specs.First.{Test, _gives_, firstOf, Faultless}
-use Rattle.refusal.specs.Laws.First.{faultless, accepted-by}
+use Rattle.refusal.specs.First.{_gives_, firstOf, Faultless}
+use Rattle.refusal.specs.Laws.First.{faultless, faultless-both, accepted-by}
 use Rattle.configuration.specs.declared.BlockingStrategy.{BlockingStrategy}
 use Rattle.configuration.specs.declared.BlockingStrategy.the-variants.{FixedSize, RandomKmeans}
 use Rattle.configuration.specs.declared.ClusteringAlgorithm.{ClusteringAlgorithm}
 use Rattle.configuration.specs.declared.SummarizationStrategy.the-variants as summarization
-use Rattle.clearing.specs.Zeros.{zeros, floatZeros}
+use Rattle.clearing.specs.Laws.Zeros.{zeros-twice, float-zeros-twice}
 use Rattle.scratch.specs.declared.ScratchLengths.{ScratchLengths}
 use Rattle.scratch.specs.Scratches.{Scratches, scratches, scratchLengths, clearedScratch}
 use Rattle.sequences.specs.Lists.{every, joined}
@@ -85,12 +85,6 @@ fits-of x l h =
     }
 
 -- ---- scratch that is zero stays as long as it is
-zeros-twice : (l : List ℕ) → zeros (zeros l) ≡ zeros l
-zeros-twice l = ap (λ n. replicate n 0) (length-replicate {A = ℕ} (length l) 0)
-
-float-zeros-twice : (l : List Float) → floatZeros (floatZeros l) ≡ floatZeros l
-float-zeros-twice l = ap (λ n. replicate n (fin false 0 (pos 0))) (length-replicate (length l) (fin false 0 (pos 0)))
-
 cleared-twice : (s : Scratches) → clearedScratch (clearedScratch s) ≡ clearedScratch s
 unfolding clearedScratch
 cleared-twice s = λ j. scratches (zeros-twice (s .order) j) (zeros-twice (s .blocks) j) (zeros-twice (s .sorted) j) (zeros-twice (s .known) j) (zeros-twice (s .taken) j) (zeros-twice (s .counts) j) (zeros-twice (s .starts) j) (zeros-twice (s .slots) j) (float-zeros-twice (s .weights) j) (float-zeros-twice (s .sums) j) (zeros-twice (s .keys) j)
@@ -123,12 +117,8 @@ module _ (dimension : ℕ) (k : BlockingStrategy) (d : Documents) (ids centroids
   refused-made z r h c = ap (left (Refused r)) c ∙ ap (λ w. leftBy w (blockedBy k d centroids ids) s) (sym h ∙ judged)
 
   module _ (h : v ≡ verdict.Accepted) where
-    apart : (a b : List Test) → Faultless (a ++ b) → Faultless a × Faultless b
-    apart [] b f = (tt, f)
-    apart (t ∷ a) b f = let r = apart a b (f .1) in ((f .0, r .0), r .1)
-
     faults : Faultless (inputTests dimension k d ids centroids) × Faultless ((not (scratchSuffices (scratchNeeds (sizesFor dimension k d ids centroids)) (scratchLengths s)) gives BufferTooShort) ∷ [])
-    faults = apart (inputTests dimension k d ids centroids) _ (faultless (makeTests dimension k d ids centroids s) (sym judged ∙ h))
+    faults = faultless-both (inputTests dimension k d ids centroids) _ (faultless (makeTests dimension k d ids centroids s) (sym judged ∙ h))
 
     room : scratchSuffices (scratchNeeds (sizesFor dimension k d ids centroids)) (scratchLengths s) ≡ true
     room = not-false _ (faults .1 .0)

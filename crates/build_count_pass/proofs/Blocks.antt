@@ -37,8 +37,8 @@ module _ (b : ℕ) (counts ks : List ℕ) (minimums steps : List Float) where
 
 notes-of-keys : (b : ℕ) (n : Noted) (ts : List Term) → EachOf Held ts → notesKeys b n (map termKey ts) ≡ notes b n ts
 notes-of-keys b n ts h =
-    ap (λ l. noted (foldl counted (n .counts) l) (set (n .minimums) b (least (map valueOfTerm (map termKey ts)))) (set (n .steps) b (stepFor (map valueOfTerm (map termKey ts))))) (key-components b (least (values ts)) (stepFor (values ts)) ts h)
-    ∙ ap (λ v. noted (foldl counted (n .counts) (map componentOf (entriesOf b ts))) (set (n .minimums) b (least v)) (set (n .steps) b (stepFor v))) (key-values ts h)
+    ap (λ l. noted (foldl counted (n .entryCounts) l) (set (n .minimums) b (least (map valueOfTerm (map termKey ts)))) (set (n .steps) b (stepFor (map valueOfTerm (map termKey ts))))) (key-components b (least (values ts)) (stepFor (values ts)) ts h)
+    ∙ ap (λ v. noted (foldl counted (n .entryCounts) (map componentOf (entriesOf b ts))) (set (n .minimums) b (least v)) (set (n .steps) b (stepFor v))) (key-values ts h)
 
 -- ---- one block's turn
 module _ (b : ℕ) (top : List Term) (n : Noted) (m : ℕ) (p : m ≡ length top) where
@@ -78,21 +78,21 @@ rest-end b left n all end e R = subst (λ l. Rest b l n all end) e R
 
 -- ---- all blocks
 noted-all : (b : ℕ) (tops : List (List Term)) (n : Noted)
-    → notedFrom b tops n ≡ noted (foldl counted (n .counts) (map componentOf (entriesFrom b (fullFirst tops)))) (sets (n .minimums) b (minimumsOf (fullFirst tops))) (sets (n .steps) b (stepsOf (fullFirst tops)))
+    → notedFrom b tops n ≡ noted (foldl counted (n .entryCounts) (map componentOf (entriesFrom b (fullFirst tops)))) (sets (n .minimums) b (minimumsOf (fullFirst tops))) (sets (n .steps) b (stepsOf (fullFirst tops)))
 unfolding notedFrom
 noted-all b [] n = refl
 noted-all b (t ∷ tops) n = go (ap (λ k. notedFrom k tops (notes b n t)) (add-one b) ∙ noted-all (suc b) tops (notes b n t)) (eqb (length t) 0)
   where
-    go : notedFrom (b + 1) tops (notes b n t) ≡ noted (foldl counted (notes b n t .counts) (map componentOf (entriesFrom (suc b) (fullFirst tops)))) (sets (notes b n t .minimums) (suc b) (minimumsOf (fullFirst tops))) (sets (notes b n t .steps) (suc b) (stepsOf (fullFirst tops)))
-        → (z : Bool) → cond z n (notedFrom (b + 1) tops (notes b n t)) ≡ noted (foldl counted (n .counts) (map componentOf (entriesFrom b (cond z [] (t ∷ (fullFirst tops)))))) (sets (n .minimums) b (minimumsOf (cond z [] (t ∷ (fullFirst tops))))) (sets (n .steps) b (stepsOf (cond z [] (t ∷ (fullFirst tops)))))
+    go : notedFrom (b + 1) tops (notes b n t) ≡ noted (foldl counted (notes b n t .entryCounts) (map componentOf (entriesFrom (suc b) (fullFirst tops)))) (sets (notes b n t .minimums) (suc b) (minimumsOf (fullFirst tops))) (sets (notes b n t .steps) (suc b) (stepsOf (fullFirst tops)))
+        → (z : Bool) → cond z n (notedFrom (b + 1) tops (notes b n t)) ≡ noted (foldl counted (n .entryCounts) (map componentOf (entriesFrom b (cond z [] (t ∷ (fullFirst tops)))))) (sets (n .minimums) b (minimumsOf (cond z [] (t ∷ (fullFirst tops))))) (sets (n .steps) b (stepsOf (cond z [] (t ∷ (fullFirst tops)))))
     go i true = refl
-    go i false = i ∙ ap (λ l. noted l (sets (notes b n t .minimums) (suc b) (minimumsOf (fullFirst tops))) (sets (notes b n t .steps) (suc b) (stepsOf (fullFirst tops)))) (sym (counted-after (n .counts) (entriesOf b t) (entriesFrom (suc b) (fullFirst tops))))
+    go i false = i ∙ ap (λ l. noted l (sets (notes b n t .minimums) (suc b) (minimumsOf (fullFirst tops))) (sets (notes b n t .steps) (suc b) (stepsOf (fullFirst tops)))) (sym (counted-after (n .entryCounts) (entriesOf b t) (entriesFrom (suc b) (fullFirst tops))))
 
 -- the work space cleared, and the results noted from zeros on
 pub left-all : (tops : List (List Term)) (k p : List ℕ) (m : List Float) (c : List ℕ) (l s : List Float) (k₁ k' p₁ p' : List ℕ) (m₁ m' : List Float) → k' ≡ zeros k₁ → length k₁ ≡ length k → p' ≡ zeros p₁ → length p₁ ≡ length p → m' ≡ floatZeros m₁ → length m₁ ≡ length m
-    → (z : List ℕ) → z ≡ zeros c → (n : Noted) → n ≡ notedFrom 0 tops (noted z l s) → counting k' p' m' (n .counts) (n .minimums) (n .steps) ≡ countLeft tops (counting k p m c l s)
+    → (z : List ℕ) → z ≡ zeros c → (n : Noted) → n ≡ notedFrom 0 tops (noted z l s) → counting k' p' m' (n .entryCounts) (n .minimums) (n .steps) ≡ countLeft tops (counting k p m c l s)
 left-all tops k p m c l s k₁ k' p₁ p' m₁ m' a b f g h i z e n q =
-    ap (λ x. counting x p' m' (n .counts) (n .minimums) (n .steps)) (a ∙ ap (λ n. replicate n 0) b)
-    ∙ ap (λ x. counting (zeros k) x m' (n .counts) (n .minimums) (n .steps)) (f ∙ ap (λ n. replicate n 0) g)
-    ∙ ap (λ x. counting (zeros k) (zeros p) x (n .counts) (n .minimums) (n .steps)) (h ∙ ap (λ n. replicate n (fin false 0 (pos 0))) i)
-    ∙ ap (λ n. counting (zeros k) (zeros p) (floatZeros m) (n .counts) (n .minimums) (n .steps)) (q ∙ ap (λ z. notedFrom 0 tops (noted z l s)) e ∙ noted-all 0 tops (noted (zeros c) l s))
+    ap (λ x. counting x p' m' (n .entryCounts) (n .minimums) (n .steps)) (a ∙ ap (λ n. replicate n 0) b)
+    ∙ ap (λ x. counting (zeros k) x m' (n .entryCounts) (n .minimums) (n .steps)) (f ∙ ap (λ n. replicate n 0) g)
+    ∙ ap (λ x. counting (zeros k) (zeros p) x (n .entryCounts) (n .minimums) (n .steps)) (h ∙ ap (λ n. replicate n (fin false 0 (pos 0))) i)
+    ∙ ap (λ n. counting (zeros k) (zeros p) (floatZeros m) (n .entryCounts) (n .minimums) (n .steps)) (q ∙ ap (λ z. notedFrom 0 tops (noted z l s)) e ∙ noted-all 0 tops (noted (zeros c) l s))

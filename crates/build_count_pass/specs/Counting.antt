@@ -28,12 +28,12 @@ pub record Counting : Type 0 where
   pub keys : List ℕ
   pub places : List ℕ
   pub maxima : List Float
-  pub counts : List ℕ
+  pub entryCounts : List ℕ
   pub minimums : List Float
   pub steps : List Float
 
 abbrev pub counting : List ℕ → List ℕ → List Float → List ℕ → List Float → List Float → Counting
-counting k p m c l s = record { keys = k; places = p; maxima = m; counts = c; minimums = l; steps = s }
+counting k p m c l s = record { keys = k; places = p; maxima = m; entryCounts = c; minimums = l; steps = s }
 
 -- how often each component comes in the kept terms, from zeros on
 abbrev pub countsOf : List (List Term) → List ℕ → List ℕ
@@ -48,7 +48,7 @@ stepsOf tops = map (λ t. stepFor (values t)) tops
 -- the work space all zero, the counts, and in front of each buffer as many minimums and steps as find a place
 abbrev pub countedIn : List (List Term) → Counting → Counting
 countedIn tops l =
-    counting (zeros (l .keys)) (zeros (l .places)) (floatZeros (l .maxima)) (countsOf tops (l .counts)) (sets (l .minimums) 0 (minimumsOf tops)) (sets (l .steps) 0 (stepsOf tops))
+    counting (zeros (l .keys)) (zeros (l .places)) (floatZeros (l .maxima)) (countsOf tops (l .entryCounts)) (sets (l .minimums) 0 (minimumsOf tops)) (sets (l .steps) 0 (stepsOf tops))
 
 -- of the blocks before the first whose summary is empty
 abbrev pub countLeft : List (List Term) → Counting → Counting

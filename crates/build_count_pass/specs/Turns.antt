@@ -15,20 +15,20 @@ use Rattle.sparse_layout.specs.Placing.{componentOf}
 use Rattle.sparse_layout.specs.Keys.{counted}
 
 pub record Noted : Type 0 where
-  pub counts : List ℕ
+  pub entryCounts : List ℕ
   pub minimums : List Float
   pub steps : List Float
 
 abbrev pub noted : List ℕ → List Float → List Float → Noted
-noted c l s = record { counts = c; minimums = l; steps = s }
+noted c l s = record { entryCounts = c; minimums = l; steps = s }
 
 -- a block's kept terms counted, and its minimum and its step at the block's number
 abbrev pub notes : ℕ → Noted → List Term → Noted
-notes b n ts = noted (foldl counted (n .counts) (map componentOf (entriesOf b ts))) (set (n .minimums) b (least (values ts))) (set (n .steps) b (stepFor (values ts)))
+notes b n ts = noted (foldl counted (n .entryCounts) (map componentOf (entriesOf b ts))) (set (n .minimums) b (least (values ts))) (set (n .steps) b (stepFor (values ts)))
 
 -- the same by the terms' keys
 abbrev pub notesKeys : ℕ → Noted → List ℕ → Noted
-notesKeys b n ks = noted (foldl counted (n .counts) (map key.componentOf ks)) (set (n .minimums) b (least (map valueOfTerm ks))) (set (n .steps) b (stepFor (map valueOfTerm ks)))
+notesKeys b n ks = noted (foldl counted (n .entryCounts) (map key.componentOf ks)) (set (n .minimums) b (least (map valueOfTerm ks))) (set (n .steps) b (stepFor (map valueOfTerm ks)))
 
 -- what a block's turn answers and leaves, by the terms that its summary keeps: where it keeps none, nothing is noted
 abbrev pub Turn : ℕ → List Term → Noted → Bool → Noted → Type 0

@@ -130,10 +130,10 @@ module _ (dimension : ℕ) (s : SummarizationStrategy) (d : Documents) (order bl
   given = counting keys places maxima counts (o .minimums) (o .steps)
 
   counted-is : (after : Counting) → after ≡ measuredLeft dimension s d order blocks given
-      → after ≡ (let c = countedIn (tops dimension s d order blocks) (counting keys places maxima (take dimension counts) (o .minimums) (o .steps)) in counting (c .keys) (c .places) (c .maxima) (c .counts ++ drop dimension counts) (c .minimums) (c .steps))
+      → after ≡ (let c = countedIn (tops dimension s d order blocks) (counting keys places maxima (take dimension counts) (o .minimums) (o .steps)) in counting (c .keys) (c .places) (c .maxima) (c .entryCounts ++ drop dimension counts) (c .minimums) (c .steps))
   counted-is after e =
       e ∙ ap (λ v. measuredBy v dimension (tops dimension s d order blocks) given) (accepted-by (workFor dimension blocks given) (faults .0, (faults .1 .0, (faults .1 .1 .0, tt))))
-      ∙ ap (λ t. let c = countedIn t (counting keys places maxima (take dimension counts) (o .minimums) (o .steps)) in counting (c .keys) (c .places) (c .maxima) (c .counts ++ drop dimension counts) (c .minimums) (c .steps)) (all-full (tops dimension s d order blocks) none)
+      ∙ ap (λ t. let c = countedIn t (counting keys places maxima (take dimension counts) (o .minimums) (o .steps)) in counting (c .keys) (c .places) (c .maxima) (c .entryCounts ++ drop dimension counts) (c .minimums) (c .steps)) (all-full (tops dimension s d order blocks) none)
 
   front-counts : (c : List ℕ) → c ≡ countsOf (tops dimension s d order blocks) (take dimension counts) ++ drop dimension counts → take dimension c ≡ countsOf (tops dimension s d order blocks) (take dimension counts)
   front-counts c e =
@@ -144,7 +144,7 @@ module _ (dimension : ℕ) (s : SummarizationStrategy) (d : Documents) (order bl
   module _ (k' p' : List ℕ) (m' : List Float) (c : List ℕ) (low step : List Float) (hk : length k' ≡ length keys) (hp : length p' ≡ length places) (hm : length m' ≡ length maxima)
       (after : counting k' p' m' c low step ≡ measuredLeft dimension s d order blocks (counting keys places maxima counts (o .minimums) (o .steps))) where
     q : take dimension c ≡ countsOf (tops dimension s d order blocks) (take dimension counts)
-    q = front-counts c (ap (λ z. z .counts) (counted-is (counting k' p' m' c low step) after))
+    q = front-counts c (ap (λ z. z .entryCounts) (counted-is (counting k' p' m' c low step) after))
 
     el : low ≡ sets (o .minimums) 0 (minimumsOf (tops dimension s d order blocks))
     el = ap (λ z. z .minimums) (counted-is (counting k' p' m' c low step) after)

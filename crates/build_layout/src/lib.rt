@@ -49,10 +49,10 @@ pub fn write(
 {
     let lent = OutputLengths {
         postings: postings.len() as u64,
-        offsets: block_offsets.len() as u64,
-        components: summary_components.len() as u64,
-        starts: component_offsets.len() as u64,
-        ids: summary_ids.len() as u64,
+        block_offsets: block_offsets.len() as u64,
+        summary_components: summary_components.len() as u64,
+        component_offsets: component_offsets.len() as u64,
+        summary_ids: summary_ids.len() as u64,
         codes: codes.len() as u64,
         minimums: minimums.len() as u64,
         steps: steps.len() as u64,

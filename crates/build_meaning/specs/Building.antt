@@ -116,8 +116,8 @@ left g lent = leftBy (verdictOf g lent) g lent
 abbrev pub sizesBuilt : Built → BuiltSizes
 sizesBuilt b = record {
   postings = length (b .postings);
-  offsets = length (b .blockOffsets);
-  components = length (b .summaries .summaryComponents);
+  «block_offsets» = length (b .blockOffsets);
+  «summary_components» = length (b .summaries .summaryComponents);
   entries = length (b .summaries .summaryIds);
   summaries = length (b .summaries .minimums);
 }
@@ -131,17 +131,17 @@ answerBy (Refused r) b = answer.Refused r
 pub record InNumbers : Type 0 where
   pub number : ℕ
   pub postingsWritten : ℕ
-  pub offsetsWritten : ℕ
-  pub componentsWritten : ℕ
+  pub blockOffsetsWritten : ℕ
+  pub summaryComponentsWritten : ℕ
   pub entriesWritten : ℕ
   pub summariesWritten : ℕ
 
 abbrev pub numbers : ℕ → ℕ → ℕ → ℕ → ℕ → ℕ → InNumbers
-numbers n p o c e s = record { number = n; postingsWritten = p; offsetsWritten = o; componentsWritten = c; entriesWritten = e; summariesWritten = s }
+numbers n p o c e s = record { number = n; postingsWritten = p; blockOffsetsWritten = o; summaryComponentsWritten = c; entriesWritten = e; summariesWritten = s }
 
 abbrev pub inNumbers : BuildAnswer → InNumbers
 inNumbers (answer.Refused r) = numbers (numberOf r) 0 0 0 0 0
-inNumbers (answer.Built s) = numbers 0 (s .postings) (s .offsets) (s .components) (s .entries) (s .summaries)
+inNumbers (answer.Built s) = numbers 0 (s .postings) (s .«block_offsets») (s .«summary_components») (s .entries) (s .summaries)
 
 pub record Left : Type 0 where
   pub answer : BuildAnswer

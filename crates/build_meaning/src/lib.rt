@@ -7,9 +7,9 @@ pub struct BuiltSizes {
     // of packed postings
     pub postings: u64,
     // of block offsets: one more than there are blocks, or none
-    pub offsets: u64,
+    pub block_offsets: u64,
     // of components in the summaries; their offsets are one more
-    pub components: u64,
+    pub summary_components: u64,
     // of summary ids, and of codes
     pub entries: u64,
     // of minimums, and of steps

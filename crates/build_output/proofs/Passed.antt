@@ -1,14 +1,12 @@
 -- What the second pass leaves, from what its parts left.
 use Prim.Native.Nat.{ℕ, min}
-use native.Mathlib.Omega.{arith}
-use mathlib.Core.Path.{_≡_, sym, ap, _∙_}
-use mathlib.Core.Logic.{⊎-elim}
+use mathlib.Core.Path.{_≡_, ap, _∙_}
 use mathlib.Core.List.{List, _++_, map}
 use lib.ListN.{length, take, drop, replicate}
-use lib.Seq.{sets, length-front, take-all}
+use lib.Seq.{sets, length-front}
 use lib.Ieee.{Float}
 use Rattle.configuration.specs.declared.SummarizationStrategy.{SummarizationStrategy}
-use Rattle.sequences.specs.Laws.Lists.{le-or-lt}
+use Rattle.sequences.specs.Laws.Lists.{least-long, cut-is}
 use Rattle.documents.specs.Documents.{Documents}
 use Rattle.sparse_layout.specs.Keys.{lent, named, laidComponents, laidStarts, scanned}
 use Rattle.summary_terms.specs.Answers.{limitOf}
@@ -16,12 +14,8 @@ use Rattle.build_block_summary.specs.Blocks.{tops}
 use Rattle.build_fill_pass.specs.Filling.{Filling, filling, fillLeft}
 use Rattle.build_meaning.specs.Building.{zeros, floatZeros}
 use Rattle.build_sizes.specs.Sized.{postingOf}
-use Rattle.build_sizes.specs.Laws.Fronts.{least-long, front-is}
+use Rattle.build_sizes.specs.Laws.Fronts.{front-is}
 use Rattle.build_output.specs.Placed.{Written, written, cursorsOf, filledBy, secondPass}
-
--- a front cut to as many as there are
-cut-is : (l : List ℕ) (n k : ℕ) → k ≡ min n (length l) → take k l ≡ take n l
-cut-is l n k e = ⊎-elim (λ h. ap (λ m. take m l) (let z : k ≡ n = omega arith in z)) (λ h. take-all k l (omega arith) ∙ sym (take-all n l (omega arith))) (le-or-lt n (length l))
 
 module _ (dimension n : ℕ) (s : SummarizationStrategy) (d : Documents) (order blocks keys places : List ℕ) (maxima : List Float) (counts cursors : List ℕ) (w : Written)
     (cut : n ≡ min dimension (length counts)) (long : length cursors ≡ length (take n counts)) (scan : cursors ≡ scanned 0 0 (named (take n counts)) (take n counts)) (after : Filling)

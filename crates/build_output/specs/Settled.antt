@@ -16,10 +16,10 @@ pub record Left : Type 0 where
   pub keys : List ℕ
   pub places : List ℕ
   pub maxima : List Float
-  pub counts : List ℕ
+  pub entryCounts : List ℕ
 
 abbrev pub left : BuildAnswer → Outputs → List ℕ → List ℕ → List Float → List ℕ → Left
-left a o k p m c = record { answer = a; output = o; keys = k; places = p; maxima = m; counts = c }
+left a o k p m c = record { answer = a; output = o; keys = k; places = p; maxima = m; entryCounts = c }
 
 -- the output without the blocks' minimums and steps, which the first pass writes
 abbrev pub writtenOf : Outputs → Written

@@ -22,15 +22,17 @@ use Rattle.build_promises.specs.Near.{summaryAt}
 abbrev pub standing : BuiltSizes → Outputs → Built
 standing n o = record {
   postings = take (n .postings) (o .postings);
-  blockOffsets = take (n .offsets) (o .blockOffsets);
-  summaries = arrays (take (n .components) (o .summaryComponents)) (take (suc (n .components)) (o .componentOffsets)) (take (n .entries) (o .summaryIds)) (take (n .entries) (o .codes))
+  blockOffsets = take (n .«block_offsets») (o .blockOffsets);
+  summaries = arrays (take (n .«summary_components») (o .summaryComponents)) (take (suc (n .«summary_components»)) (o .componentOffsets))
+      (take (n .entries) (o .summaryIds)) (take (n .entries) (o .codes))
       (take (n .summaries) (o .minimums)) (take (n .summaries) (o .steps));
 }
 
 -- and what lies past it
 abbrev pub past : BuiltSizes → Outputs → Outputs
 past n o =
-    outputs (drop (n .postings) (o .postings)) (drop (n .offsets) (o .blockOffsets)) (drop (n .components) (o .summaryComponents)) (drop (suc (n .components)) (o .componentOffsets))
+    outputs (drop (n .postings) (o .postings)) (drop (n .«block_offsets») (o .blockOffsets)) (drop (n .«summary_components») (o .summaryComponents))
+    (drop (suc (n .«summary_components»)) (o .componentOffsets))
     (drop (n .entries) (o .summaryIds)) (drop (n .entries) (o .codes)) (drop (n .summaries) (o .minimums)) (drop (n .summaries) (o .steps))
 
 -- a list was built: `lent` is what was lent at entry, and `after` what lies there at exit

@@ -16,8 +16,8 @@ numberShown x = x .answer .number
 abbrev pub sizesShown : ShownBuilt → BuiltSizes
 sizesShown x = record {
   postings = x .answer .postingsWritten;
-  offsets = x .answer .offsetsWritten;
-  components = x .answer .componentsWritten;
+  «block_offsets» = x .answer .blockOffsetsWritten;
+  «summary_components» = x .answer .summaryComponentsWritten;
   entries = x .answer .entriesWritten;
   summaries = x .answer .summariesWritten;
 }
@@ -26,5 +26,5 @@ sizesShown x = record {
 pub record NotBuilt (g : Input) (lent : Lent) (x : ShownBuilt) : Type 0 where
   pub reason : Refusal
   pub number : numberShown x ≡ numberOf reason
-  pub sizes : sizesShown x ≡ record { postings = 0; offsets = 0; components = 0; entries = 0; summaries = 0 }
+  pub sizes : sizesShown x ≡ record { postings = 0; «block_offsets» = 0; «summary_components» = 0; entries = 0; summaries = 0 }
   pub refused : Unmade g lent reason (x .lent)

@@ -5,7 +5,7 @@ use native.Mathlib.Numerals.{add-one}
 use mathlib.Core.Path.{_≡_, sym, ap, _∙_, subst}
 use mathlib.Core.List.{List, map}
 use lib.ListN.{length, getD, take, drop, length-append, drop-of-length-le}
-use lib.Seq.{drop-cons, take-length}
+use lib.Seq.{drop-cons}
 use Rattle.configuration.specs.declared.BlockingStrategy.{BlockingStrategy}
 use Rattle.configuration.specs.declared.BlockingStrategy.the-variants.{FixedSize, RandomKmeans}
 use Rattle.sequences.specs.Lists.{joined, part}
@@ -13,9 +13,10 @@ use Rattle.sequences.specs.Laws.Lists.{part-length}
 use Rattle.documents.specs.declared.TermPlaces.{TermPlaces}
 use Rattle.documents.specs.Documents.{Documents, terms}
 use Rattle.documents.specs.Answers.{placesOf}
-use Rattle.documents.specs.Laws.Places.{paired-count, terms-at, places-order}
+use Rattle.documents.specs.Laws.Places.{paired-count, terms-at, places-order, places-within}
 use Rattle.build_admission.specs.Admission.{centroidsUsed}
 use Rattle.build_admission.specs.Answers.{takenOf}
+use Rattle.build_admission.specs.Laws.Used.{used-are}
 use Rattle.build_meaning.specs.Needs.{sizes, sizesFor, scratchNeeds}
 use Rattle.scratch.specs.declared.ScratchLengths.{ScratchLengths}
 use Rattle.build_scratch.specs.Lengths.{capped, shown}
@@ -54,14 +55,8 @@ module _ (d : Documents) (n : ℕ) (e : n ≡ min (length (d .components)) (leng
   count-at i =
       let p = placesOf (d .offsets) n i in
       ap length (terms-at d i n e) ∙ paired-count (part (p .from) (p .to - p .from) (d .components)) (part (p .from) (p .to - p .from) (d .values))
-      ∙ shorter (p .from) (p .to) (places-order (d .offsets) n i) (inside (d .offsets) n i)
+      ∙ shorter (p .from) (p .to) (places-order (d .offsets) n i) (places-within (d .offsets) n i)
     where
-      inside : (os : List ℕ) (n i : ℕ) → placesOf os n i .to ≤ n
-      inside os n i = least _ n
-        where
-          least : (a n : ℕ) → min a n ≤ n
-          least a n = omega arith
-
       shorter : (a b : ℕ) → a ≤ b → b ≤ n → min (length (part a (b - a) (d .components))) (length (part a (b - a) (d .values))) ≡ b - a
       shorter a b h k =
           let x = part-length a (b - a) (d .components) (omega arith) in
@@ -103,14 +98,6 @@ total-end d is i sum h f inv = at sum (total d (drop i is)) f (ap (total d) (dro
     at s a f z = omega arith
 
 -- ---- the centroids that are used
-pub taken-count : (k : BlockingStrategy) (cs : List ℕ) (n : ℕ) → n ≡ takenOf k (length cs) → n ≡ length (take n cs)
-taken-count (FixedSize size) cs n e = e ∙ ap (λ m. length (take m cs)) (sym e)
-taken-count (RandomKmeans fraction minimum algorithm) cs n e = e ∙ sym (ap length (take-length cs)) ∙ ap (λ m. length (take m cs)) (sym e)
-
-used-are : (k : BlockingStrategy) (cs : List ℕ) (n : ℕ) → n ≡ takenOf k (length cs) → take n cs ≡ centroidsUsed k cs
-used-are (FixedSize size) cs n e = ap (λ m. take m cs) e
-used-are (RandomKmeans fraction minimum algorithm) cs n e = ap (λ m. take m cs) e ∙ take-length cs
-
 used-count : (k : BlockingStrategy) (cs : List ℕ) (n : ℕ) → n ≡ takenOf k (length cs) → n ≡ length (centroidsUsed k cs)
 used-count (FixedSize size) cs n e = e
 used-count (RandomKmeans fraction minimum algorithm) cs n e = e

@@ -20,10 +20,10 @@ module _ (p o n e b : ℕ) (counts : List ℕ) (l : OutputLengths) (x : n ≡ le
   room-is = (λ j. roomBy p o (x j) (y j) (z j) l)
 
   pub room-refused : not (judgedRoom p o n e b l) ≡ true → answer.Refused BufferTooShort ≡ roomAnswer p o counts l
-  room-refused h = sym (ap (λ t. cond t (answer.Refused BufferTooShort) (answer.Built (record { postings = p; offsets = o; components = n; entries = e; summaries = b }))) h) ∙ room-is
+  room-refused h = sym (ap (λ t. cond t (answer.Refused BufferTooShort) (answer.Built (record { postings = p; «block_offsets» = o; «summary_components» = n; entries = e; summaries = b }))) h) ∙ room-is
 
-  pub room-found : not (judgedRoom p o n e b l) ≡ false → answer.Built (record { postings = p; offsets = o; components = n; entries = e; summaries = b }) ≡ roomAnswer p o counts l
-  room-found h = sym (ap (λ t. cond t (answer.Refused BufferTooShort) (answer.Built (record { postings = p; offsets = o; components = n; entries = e; summaries = b }))) h) ∙ room-is
+  pub room-found : not (judgedRoom p o n e b l) ≡ false → answer.Built (record { postings = p; «block_offsets» = o; «summary_components» = n; entries = e; summaries = b }) ≡ roomAnswer p o counts l
+  room-found h = sym (ap (λ t. cond t (answer.Refused BufferTooShort) (answer.Built (record { postings = p; «block_offsets» = o; «summary_components» = n; entries = e; summaries = b }))) h) ∙ room-is
 
 -- ---- the work: each way out by its test
 module _ (dimension offsets keys places maxima counts : ℕ) (o m : Bool) (eo : o ≡ dimensionOutside dimension) where

@@ -44,11 +44,11 @@ unfolding outputSuffices
 room-agrees b l p o n e m hp ho hn hs hi hc hm ht =
     (λ j. sizesOrRefused (judged j) (sym hp j) (sym ho j) (sym hn j) (sym hi j) (sym hm j)) ∙ go (outputSuffices b (roomOf l))
   where
-    starts : leb (suc n) (l .starts) ≡ ltb n (l .starts)
+    starts : leb (suc n) (l .«component_offsets») ≡ ltb n (l .«component_offsets»)
     starts = refl
 
-    right : leb (length (b .summaries .componentOffsets)) (l .starts) ≡ ltb n (l .starts)
-    right = ap (λ k. leb k (l .starts)) hs
+    right : leb (length (b .summaries .componentOffsets)) (l .«component_offsets») ≡ ltb n (l .«component_offsets»)
+    right = ap (λ k. leb k (l .«component_offsets»)) hs
 
     assoc : (a c f g i j k t : Bool) → ((a && c) && ((f && g) && ((i && j) && (k && t)))) ≡ (a && (c && (f && (g && (i && (j && (k && t)))))))
     assoc true true true true true true k t = refl
@@ -61,8 +61,8 @@ room-agrees b l p o n e m hp ho hn hs hi hc hm ht =
 
     judged : judgedRoom p o n e m l ≡ outputSuffices b (roomOf l)
     judged =
-        assoc (leb p (l .postings)) (leb o (l .offsets)) (leb n (l .components)) (ltb n (l .starts)) (leb e (l .ids)) (leb e (l .codes)) (leb m (l .minimums)) (leb m (l .steps))
-        ∙ (λ j. leb (sym hp j) (l .postings) && (leb (sym ho j) (l .offsets) && (leb (sym hn j) (l .components) && (sym right j && (leb (sym hi j) (l .ids) && (leb (sym hc j) (l .codes) && (leb (sym hm j) (l .minimums) && leb (sym ht j) (l .steps))))))))
+        assoc (leb p (l .postings)) (leb o (l .«block_offsets»)) (leb n (l .«summary_components»)) (ltb n (l .«component_offsets»)) (leb e (l .«summary_ids»)) (leb e (l .codes)) (leb m (l .minimums)) (leb m (l .steps))
+        ∙ (λ j. leb (sym hp j) (l .postings) && (leb (sym ho j) (l .«block_offsets») && (leb (sym hn j) (l .«summary_components») && (sym right j && (leb (sym hi j) (l .«summary_ids») && (leb (sym hc j) (l .codes) && (leb (sym hm j) (l .minimums) && leb (sym ht j) (l .steps))))))))
 
     go : (t : Bool) → sizesOrRefused t (length (b .postings)) (length (b .blockOffsets)) (length (b .summaries .summaryComponents)) (length (b .summaries .summaryIds)) (length (b .summaries .minimums)) ≡ answerBy (firstOf ((not t gives BufferTooShort) ∷ [])) b
     go true = refl
@@ -95,12 +95,12 @@ module _ (dimension : ℕ) (s : SummarizationStrategy) (d : Documents) (order bl
     few : length (between blocks order) ≤ blockLimit
     few = let n = between-count blocks order in let k = ltb-false blockLimit (length blocks - 1) (faults .1 .0) in omega arith
 
-    pub roomy : (dimension ≤ length (w .keys)) × (dimension ≤ length (w .places)) × (dimension ≤ length (w .maxima)) × (dimension ≤ length (w .counts))
+    pub roomy : (dimension ≤ length (w .keys)) × (dimension ≤ length (w .places)) × (dimension ≤ length (w .maxima)) × (dimension ≤ length (w .entryCounts))
     roomy =
-        let a = neither (ltb (length (w .keys)) dimension || ltb (length (w .places)) dimension || ltb (length (w .maxima)) dimension) (ltb (length (w .counts)) dimension) (faults .1 .1 .0) in
+        let a = neither (ltb (length (w .keys)) dimension || ltb (length (w .places)) dimension || ltb (length (w .maxima)) dimension) (ltb (length (w .entryCounts)) dimension) (faults .1 .1 .0) in
         let b = neither (ltb (length (w .keys)) dimension || ltb (length (w .places)) dimension) (ltb (length (w .maxima)) dimension) (a .0) in
         let c = neither (ltb (length (w .keys)) dimension) (ltb (length (w .places)) dimension) (b .0) in
-        (ltb-false (length (w .keys)) dimension (c .0), ltb-false (length (w .places)) dimension (c .1), ltb-false (length (w .maxima)) dimension (b .1), ltb-false (length (w .counts)) dimension (a .1))
+        (ltb-false (length (w .keys)) dimension (c .0), ltb-false (length (w .places)) dimension (c .1), ltb-false (length (w .maxima)) dimension (b .1), ltb-false (length (w .entryCounts)) dimension (a .1))
 
     limit-is : limitOf dimension (length (w .keys)) (length (w .places)) (length (w .maxima)) ≡ dimension
     limit-is = limit-whole dimension (length (w .keys)) (length (w .places)) (length (w .maxima)) (roomy .0) (roomy .1) (roomy .2)
@@ -110,23 +110,23 @@ module _ (dimension : ℕ) (s : SummarizationStrategy) (d : Documents) (order bl
     last-decide = first-after (workFor dimension blocks w) lastTests faults
 
     abbrev given : Counting
-    given = counting (w .keys) (w .places) (w .maxima) (take dimension (w .counts)) (w .minimums) (w .steps)
+    given = counting (w .keys) (w .places) (w .maxima) (take dimension (w .entryCounts)) (w .minimums) (w .steps)
 
     -- what counting answered and left
     module _ (full : Bool) (answered : full ≡ noneEmpty (tops (limitOf dimension (length (w .keys)) (length (w .places)) (length (w .maxima))) s d order blocks)) (k p : List ℕ) (m : List Float) (x : List ℕ) (low step : List Float)
-        (left : counting k p m x low step ≡ countLeft (tops (limitOf dimension (length (w .keys)) (length (w .places)) (length (w .maxima))) s d order blocks) (counting (w .keys) (w .places) (w .maxima) (take dimension (w .counts)) (w .minimums) (w .steps))) where
+        (left : counting k p m x low step ≡ countLeft (tops (limitOf dimension (length (w .keys)) (length (w .places)) (length (w .maxima))) s d order blocks) (counting (w .keys) (w .places) (w .maxima) (take dimension (w .entryCounts)) (w .minimums) (w .steps))) where
       full-is : noneEmpty T ≡ full
       full-is = ap (λ n. noneEmpty (tops n s d order blocks)) (sym limit-is) ∙ sym answered
 
       counted-is : counting k p m x low step ≡ countLeft T given
       counted-is = left ∙ ap (λ n. countLeft (tops n s d order blocks) given) limit-is
 
-      left-is : counting k p m (x ++ drop dimension (w .counts)) low step ≡ measuredLeft dimension s d order blocks w
+      left-is : counting k p m (x ++ drop dimension (w .entryCounts)) low step ≡ measuredLeft dimension s d order blocks w
       left-is =
-          ap (λ c. counting (c .keys) (c .places) (c .maxima) (c .counts ++ drop dimension (w .counts)) (c .minimums) (c .steps)) counted-is
+          ap (λ c. counting (c .keys) (c .places) (c .maxima) (c .entryCounts ++ drop dimension (w .entryCounts)) (c .minimums) (c .steps)) counted-is
           ∙ sym (ap (λ v. measuredBy v dimension T w) (sym judged ∙ f))
 
-      pub measured-empty : not full ≡ true → Measures dimension s d order blocks w (roomOf l) (answer.Refused EmptySummary) (counting k p m (x ++ drop dimension (w .counts)) low step)
+      pub measured-empty : not full ≡ true → Measures dimension s d order blocks w (roomOf l) (answer.Refused EmptySummary) (counting k p m (x ++ drop dimension (w .entryCounts)) low step)
       measured-empty h =
           let z : noneEmpty T ≡ false = full-is ∙ not-true full h in
           record {
@@ -134,21 +134,21 @@ module _ (dimension : ℕ) (s : SummarizationStrategy) (d : Documents) (order bl
             left = left-is;
           }
 
-      module _ (h : not full ≡ false) (long : length x ≡ length (take dimension (w .counts))) where
+      module _ (h : not full ≡ false) (long : length x ≡ length (take dimension (w .entryCounts))) where
         none : noneEmpty T ≡ true
         none = full-is ∙ not-false full h
 
-        cut-long : length (take dimension (w .counts)) ≡ dimension
-        cut-long = length-take-le dimension (w .counts) (roomy .3)
+        cut-long : length (take dimension (w .entryCounts)) ≡ dimension
+        cut-long = length-take-le dimension (w .entryCounts) (roomy .3)
 
         tallied-are : x ≡ foldl counted (blank dimension) (map componentOf (entriesFrom 0 T))
         tallied-are =
-            ap (λ c. c .counts) counted-is
-            ∙ ap (λ t. countsOf t (take dimension (w .counts))) (all-full T none)
+            ap (λ c. c .entryCounts) counted-is
+            ∙ ap (λ t. countsOf t (take dimension (w .entryCounts))) (all-full T none)
             ∙ ap (λ z. foldl counted (replicate z 0) (map componentOf (entriesFrom 0 T))) cut-long
 
-        front : take dimension (x ++ drop dimension (w .counts)) ≡ x
-        front = take-at x (drop dimension (w .counts)) dimension (long ∙ cut-long)
+        front : take dimension (x ++ drop dimension (w .entryCounts)) ≡ x
+        front = take-at x (drop dimension (w .entryCounts)) dimension (long ∙ cut-long)
 
         sizes : roomAnswer (length order) (length blocks) x l ≡ answerBy (firstOf ((not (outputSuffices (builtFrom dimension s d order blocks) (roomOf l)) gives BufferTooShort) ∷ [])) (builtFrom dimension s d order blocks)
         unfolding builtFrom
@@ -160,7 +160,7 @@ module _ (dimension : ℕ) (s : SummarizationStrategy) (d : Documents) (order bl
             (sym (entry-count dimension s d bs few small)) (code-count dimension s d bs few small ∙ sym (entry-count dimension s d bs few small))
             (minimum-count dimension s d bs few small ∙ between-count blocks order) (step-count dimension s d bs few small ∙ between-count blocks order)
 
-        pub measured : (r : BuildAnswer) → r ≡ roomAnswer (length order) (length blocks) (take dimension (x ++ drop dimension (w .counts))) l → Measures dimension s d order blocks w (roomOf l) r (counting k p m (x ++ drop dimension (w .counts)) low step)
+        pub measured : (r : BuildAnswer) → r ≡ roomAnswer (length order) (length blocks) (take dimension (x ++ drop dimension (w .entryCounts))) l → Measures dimension s d order blocks w (roomOf l) r (counting k p m (x ++ drop dimension (w .entryCounts)) low step)
         measured r j =
             record {
               answer =

@@ -57,7 +57,7 @@ workTests dimension blocks keys places maxima counts =
 
 -- for offsets of so many blocks, and for what is lent
 abbrev pub workFor : ℕ → List ℕ → Counting → List Test
-workFor dimension blocks w = workTests dimension (length blocks - 1) (length (w .keys)) (length (w .places)) (length (w .maxima)) (length (w .counts))
+workFor dimension blocks w = workTests dimension (length blocks - 1) (length (w .keys)) (length (w .places)) (length (w .maxima)) (length (w .entryCounts))
 
 abbrev pub laidTests : ℕ → SummarizationStrategy → Documents → List ℕ → List ℕ → Counting → Output → List Test
 laidTests dimension strategy d order blocks w room =
@@ -73,10 +73,10 @@ laidVerdict dimension strategy d order blocks w room = firstOf (laidTests dimens
 abbrev pub roomOf : OutputLengths → Output
 roomOf l = record {
   postings = l .postings;
-  blockOffsets = l .offsets;
-  summaryComponents = l .components;
-  componentOffsets = l .starts;
-  summaryIds = l .ids;
+  blockOffsets = l .«block_offsets»;
+  summaryComponents = l .«summary_components»;
+  componentOffsets = l .«component_offsets»;
+  summaryIds = l .«summary_ids»;
   codes = l .codes;
   minimums = l .minimums;
   steps = l .steps;
@@ -85,8 +85,8 @@ roomOf l = record {
 -- counts are taken for the components below the dimension, with the rest of the counts behind them
 abbrev pub countedFront : ℕ → List (List Term) → Counting → Counting
 countedFront dimension tops w =
-    let c = countLeft tops (counting (w .keys) (w .places) (w .maxima) (take dimension (w .counts)) (w .minimums) (w .steps)) in
-    counting (c .keys) (c .places) (c .maxima) (c .counts ++ drop dimension (w .counts)) (c .minimums) (c .steps)
+    let c = countLeft tops (counting (w .keys) (w .places) (w .maxima) (take dimension (w .entryCounts)) (w .minimums) (w .steps)) in
+    counting (c .keys) (c .places) (c .maxima) (c .entryCounts ++ drop dimension (w .entryCounts)) (c .minimums) (c .steps)
 
 -- the work refused: nothing changes. Else what counting leaves, up to the first empty summary
 abbrev pub measuredBy : Verdict → ℕ → List (List Term) → Counting → Counting
@@ -104,11 +104,11 @@ pub record Measures (dimension : ℕ) (strategy : SummarizationStrategy) (d : Do
 -- the sizes of a result of so many postings, offsets, components, entries and summaries, as long as they find room
 abbrev pub judgedRoom : ℕ → ℕ → ℕ → ℕ → ℕ → OutputLengths → Bool
 judgedRoom p o n e b l =
-    (leb p (l .postings) && leb o (l .offsets))
-    && ((leb n (l .components) && ltb n (l .starts)) && ((leb e (l .ids) && leb e (l .codes)) && (leb b (l .minimums) && leb b (l .steps))))
+    (leb p (l .postings) && leb o (l .«block_offsets»))
+    && ((leb n (l .«summary_components») && ltb n (l .«component_offsets»)) && ((leb e (l .«summary_ids») && leb e (l .codes)) && (leb b (l .minimums) && leb b (l .steps))))
 
 abbrev pub sizesOrRefused : Bool → ℕ → ℕ → ℕ → ℕ → ℕ → BuildAnswer
-sizesOrRefused fits p o n e b = cond (not fits) (answer.Refused BufferTooShort) (answer.Built (record { postings = p; offsets = o; components = n; entries = e; summaries = b }))
+sizesOrRefused fits p o n e b = cond (not fits) (answer.Refused BufferTooShort) (answer.Built (record { postings = p; «block_offsets» = o; «summary_components» = n; entries = e; summaries = b }))
 
 abbrev pub roomBy : ℕ → ℕ → ℕ → ℕ → ℕ → OutputLengths → BuildAnswer
 roomBy p o n e b l = sizesOrRefused (judgedRoom p o n e b l) p o n e b

@@ -15,10 +15,10 @@ ghost use Rattle.build_sizes.specs.Sized.{workTests, roomOf, roomAnswer,
 // How long each output buffer is.
 pub struct OutputLengths {
     pub postings: u64,
-    pub offsets: u64,
-    pub components: u64,
-    pub starts: u64,
-    pub ids: u64,
+    pub block_offsets: u64,
+    pub summary_components: u64,
+    pub component_offsets: u64,
+    pub summary_ids: u64,
     pub codes: u64,
     pub minimums: u64,
     pub steps: u64,
@@ -46,17 +46,18 @@ fn judge_room(
 {
     let sizes = sparse_layout::sizes_of(entry_counts);
     let summaries = block_count(offsets);
-    let entries = (sizes.entries <= lent.ids) & (sizes.entries <= lent.codes);
-    let terms = (sizes.components <= lent.components) & (sizes.components < lent.starts);
+    let entries = (sizes.entries <= lent.summary_ids) & (sizes.entries <= lent.codes);
+    let terms = (sizes.components <= lent.summary_components)
+        & (sizes.components < lent.component_offsets);
     let blocks = (summaries <= lent.minimums) & (summaries <= lent.steps);
-    let list = (postings as u64 <= lent.postings) & (offsets as u64 <= lent.offsets);
+    let list = (postings as u64 <= lent.postings) & (offsets as u64 <= lent.block_offsets);
     if !(list & (terms & (entries & blocks))) {
         return BuildAnswer::Refused(Refusal::BufferTooShort);
     }
     BuildAnswer::Built(BuiltSizes {
         postings: postings as u64,
-        offsets: offsets as u64,
-        components: sizes.components,
+        block_offsets: offsets as u64,
+        summary_components: sizes.components,
         entries: sizes.entries,
         summaries: summaries,
     })

@@ -44,5 +44,5 @@ energy-chosen s size energy n = simp (ne-eqb s 0 n)
 pub refused-numbers : (a : BuildAnswer) (r : Refusal) (n : ℕ) → a ≡ Refused r → n ≡ numberOf r → numbers n 0 0 0 0 0 ≡ inNumbers a
 refused-numbers a r n e h = ap (λ m. numbers m 0 0 0 0 0) h ∙ ap inNumbers (sym e)
 
-pub built-numbers : (a : BuildAnswer) (z : BuiltSizes) → a ≡ Built z → numbers 0 (z .postings) (z .offsets) (z .components) (z .entries) (z .summaries) ≡ inNumbers a
+pub built-numbers : (a : BuildAnswer) (z : BuiltSizes) → a ≡ Built z → numbers 0 (z .postings) (z .«block_offsets») (z .«summary_components») (z .entries) (z .summaries) ≡ inNumbers a
 built-numbers a z e = ap inNumbers (sym e)

@@ -56,24 +56,24 @@ pub fn summarization_of(
 pub fn show_built(
     answer: BuildAnswer,
     postings: &mut u64,
-    offsets: &mut u64,
-    components: &mut u64,
+    block_offsets: &mut u64,
+    summary_components: &mut u64,
     entries: &mut u64,
     summaries: &mut u64,
 ) -> u64
-    ensures { λ r. ⌜ numbers r (now (postings .exit)) (now (offsets .exit)) (now (components .exit)) (now (entries .exit)) (now (summaries .exit)) ≡ inNumbers answer ⌝ }
+    ensures { λ r. ⌜ numbers r (now (postings .exit)) (now («block_offsets» .exit)) (now («summary_components» .exit)) (now (entries .exit)) (now (summaries .exit)) ≡ inNumbers answer ⌝ }
 {
     *postings = 0;
-    *offsets = 0;
-    *components = 0;
+    *block_offsets = 0;
+    *summary_components = 0;
     *entries = 0;
     *summaries = 0;
     match answer {
         BuildAnswer::Refused(reason) => reason.number(),
         BuildAnswer::Built(sizes) => {
             *postings = sizes.postings;
-            *offsets = sizes.offsets;
-            *components = sizes.components;
+            *block_offsets = sizes.block_offsets;
+            *summary_components = sizes.summary_components;
             *entries = sizes.entries;
             *summaries = sizes.summaries;
             0

@@ -1,7 +1,7 @@
 -- The ranks that the approximate mode's passes leave.
 use Prim.Native.Nat.{ℕ}
 use mathlib.Core.Bool.{not}
-use mathlib.Core.List.{List, [], map}
+use mathlib.Core.List.{List, map}
 use lib.ListN.{replicate}
 use Rattle.sequences.specs.Lists.{those, firstOr}
 use Rattle.documents.specs.Documents.{Documents}

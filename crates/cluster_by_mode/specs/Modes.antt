@@ -1,6 +1,6 @@
 -- The ranks that the passes of the chosen mode leave.
 use Prim.Native.Nat.{ℕ, min}
-use mathlib.Core.List.{List, []}
+use mathlib.Core.List.{List}
 use lib.ListN.{length, take}
 use Rattle.configuration.specs.declared.ClusteringAlgorithm.{ClusteringAlgorithm}
 use Rattle.configuration.specs.declared.ClusteringAlgorithm.the-variants as algorithm

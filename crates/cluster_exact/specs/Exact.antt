@@ -1,7 +1,7 @@
 -- The ranks that the exact mode's passes leave.
 use Prim.Native.Nat.{ℕ}
 use mathlib.Core.Bool.{cond}
-use mathlib.Core.List.{List, [], map}
+use mathlib.Core.List.{List, map}
 use lib.ListN.{replicate}
 use Rattle.documents.specs.Documents.{Documents, terms}
 use Rattle.counting_sort.specs.Counting.{counted}

@@ -1,7 +1,6 @@
 -- Places in two slices that hold a document's terms.
 use Prim.Native.Nat.{ℕ, _-_, _≤_, min}
 use mathlib.Core.Path.{_≡_}
-use mathlib.Core.List.{[]}
 use lib.ListN.{length}
 use Rattle.sequences.specs.Lists.{part}
 use Rattle.documents.specs.declared.TermPlaces.{TermPlaces}

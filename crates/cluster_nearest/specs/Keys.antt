@@ -1,6 +1,6 @@
 -- A document's terms by their keys, the largest first.
 use Prim.Native.Nat.{ℕ}
-use mathlib.Core.List.{List, [], _++_, map}
+use mathlib.Core.List.{List, _++_, map}
 use lib.ListN.{length, take, drop}
 use Rattle.documents.specs.Documents.{Term, falling}
 use Rattle.documents.specs.TermKeys.{termKey}

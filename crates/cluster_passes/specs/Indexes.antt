@@ -1,6 +1,6 @@
 -- Room in slices for the index of centroids and for their scores.
 use Prim.Native.Nat.{ℕ, _-_, _≤_, _<_, _^_}
-use mathlib.Core.List.{List, []}
+use mathlib.Core.List.{List}
 use lib.ListN.{length}
 use lib.Ieee.{Float}
 use Rattle.sequences.specs.Lists.{EachOf}

@@ -1,6 +1,6 @@
 -- What the passes over the documents leave.
 use Prim.Native.Nat.{ℕ}
-use mathlib.Core.List.{List, [], _++_, zipWith}
+use mathlib.Core.List.{List, _++_, zipWith}
 use lib.ListN.{length, drop}
 
 -- ---- each number gives way to what a step makes of a document and of it

@@ -1,7 +1,6 @@
 -- A value that stays within a bound.
 use Prim.Native.Nat.{ℕ, _≤_}
 use mathlib.Core.Bool.{Bool}
-use mathlib.Core.List.{[]}
 use lib.Ieee.{Float}
 use lib.Ieee.Exact.{HasValue}
 use Rattle.float32.specs.Units.{one}

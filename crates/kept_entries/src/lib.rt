@@ -4,7 +4,7 @@ use refusal::Refusal;
 use refusal::Verdict;
 ghost use mathlib.Core.Path.{_≡_};
 ghost use mathlib.Core.Bool.{_&&_, _||_, not};
-ghost use Prim.Native.Nat.{_<_, _-_, _+_, suc, min};
+ghost use Prim.Native.Nat.{_<_, _-_, _+_, min};
 ghost use lib.Dec.{ltb, leb, eqb};
 ghost use lib.Ieee.{eq};
 ghost use lib.ListN.{length as len, getD};

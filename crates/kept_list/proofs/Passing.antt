@@ -8,12 +8,12 @@ use lib.ListN.{getD, set}
 use lib.Seq.{getD-set-other, set-set}
 use lib.Dec.{T}
 use lib.Ieee.{Float, nan, binary32, fits, lt, eq}
+use borrow.Author.Tests.{not-true}
 use Rattle.sequences.specs.Laws.Lists.{both}
 use Rattle.float32.specs.Order.{atMost}
 use Rattle.float32.specs.Laws.Tests.{yes}
 use Rattle.float32.specs.Laws.Comparisons.{lt-by-order, lt-numbers}
 use Rattle.kept_list.specs.declared.Scored.{Scored}
-use Rattle.kept_list.specs.Laws.Order.{is-not}
 use Rattle.kept_list.specs.Entry.{scored, better}
 use Rattle.kept_list.specs.Laws.Entry.{better-is}
 use Rattle.kept_list.specs.Lent.{entryAt}
@@ -25,7 +25,7 @@ better-of-lt : (e w : Scored) → T (fits binary32 (e .score)) → T (fits binar
 better-of-lt e w f g h =
     let n = lt-numbers (w .score) (e .score) (yes (lt (w .score) (e .score)) h) in
     let p = both (not (atMost (e .score) (w .score))) (not (eq (w .score) (e .score))) (sym (lt-by-order (w .score) (e .score) g f (n .0) (n .1)) ∙ h) in
-    better-is e w f g ∙ rw (is-not (atMost (e .score) (w .score)) (p .0))
+    better-is e w f g ∙ rw (not-true (atMost (e .score) (w .score)) (p .0))
 
 -- what is written at another place is not seen
 entry-after : (w : Scored) (ps : List ℕ) (xs : List Float) (k j p : ℕ) (x : Float) → (j ≡ k → ⊥) → w ≡ entryAt j ps xs → w ≡ entryAt j (set ps k p) (set xs k x)

@@ -1,4 +1,3 @@
-pub mod Order
 pub mod Pushing
 pub mod Sorted
 pub mod Best

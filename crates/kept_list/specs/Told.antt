@@ -1,5 +1,4 @@
 -- Scored entries whose score an f32 holds.
-use mathlib.Core.List.{[]}
 use lib.Dec.{T}
 use lib.Ieee.{binary32, fits}
 use Rattle.kept_list.specs.declared.Scored.{Scored}

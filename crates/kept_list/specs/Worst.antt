@@ -1,6 +1,5 @@
 -- Scores compared by their place in the total order.
 use mathlib.Core.Bool.{Bool}
-use mathlib.Core.List.{[]}
 use lib.Dec.{leb}
 use lib.Ieee.{Float}
 use Rattle.float32.specs.Key.{keyOf}

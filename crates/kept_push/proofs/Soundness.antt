@@ -4,12 +4,12 @@ use native.Mathlib.Omega.{arith}
 use native.Mathlib.Numerals.{add-one}
 use mathlib.Core.Path.{_≡_, refl, sym, ap, _∙_}
 use mathlib.Core.Logic.{inl, inr}
-use mathlib.Core.Bool.{Bool, true, false, not, _&&_}
+use mathlib.Core.Bool.{Bool, true, false, not, _&&_, and-assoc}
 use mathlib.Core.List.{List, [], _∷_}
 use lib.ListN.{length, getD, take, drop}
 use lib.Dec.{T, ltb, eqb}
 use lib.Ieee.{Float, nan, inf, fin, isNan, eq, up, down, fits, binary32}
-use borrow.Author.Tests.{lt-ltb, eq-eqb}
+use borrow.Author.Tests.{lt-ltb, eq-eqb, not-true}
 use Rattle.sequences.specs.Lists.{every}
 use Rattle.sequences.specs.Laws.Lists.{both, decide}
 use Rattle.float32.specs.Key.{keyOf}
@@ -17,7 +17,6 @@ use Rattle.float32.specs.Laws.Tests.{yes}
 use Rattle.float32.specs.Laws.KeyLaws.{key-of-nan, key-number, only-nan}
 use Rattle.kept_list.specs.declared.Scored.{Scored}
 use Rattle.kept_list.specs.Keep.{noLater, inOrder}
-use Rattle.kept_list.specs.Laws.Order.{is-not}
 use Rattle.kept_list.specs.Order.{Order}
 use Rattle.kept_list.specs.Laws.Sorted.{none-weak}
 use Rattle.kept_list.specs.Entry.{better}
@@ -45,7 +44,7 @@ module _ {A : Type 0} (better : A → A → Bool) (O : Order better) where
           none-of false = refl
       go true q true r i =
           let s = both (every (noLater better e) es) (inOrder better es) r in
-          let w = none-weak better O a e es (is-not (better e a) q) (s .0) in
+          let w = none-weak better O a e es (not-true (better e a) q) (s .0) in
           cc
 
 -- ---- a NaN stands above every number, so in order it would stand first
@@ -124,14 +123,10 @@ module _ (n : ℕ) (ps : List ℕ) (xs : List Float) where
       left = later (i + 1) i (add-one i) (omega arith) ∙ sym here ∙ c .left;
     }
       where
-        assoc : (x y z : Bool) → (x && (y && z)) ≡ ((x && y) && z)
-        assoc true y z = refl
-        assoc false y z = refl
-
         here : from i ok ≡ ((ok && not b) && stepsFrom better better-order (entryAt i ps xs) (drop (suc i) (entries (lent n ps xs))))
         here =
             ap (λ r. ok && stepsFrom better better-order (entryAt (i - 1) ps xs) r) (drop-beside n i ps xs l h k)
-            ∙ assoc ok (not (better (entryAt i ps xs) (entryAt (i - 1) ps xs))) (stepsFrom better better-order (entryAt i ps xs) (drop (suc i) (entries (lent n ps xs))))
+            ∙ sym (and-assoc ok (not (better (entryAt i ps xs) (entryAt (i - 1) ps xs))) (stepsFrom better better-order (entryAt i ps xs) (drop (suc i) (entries (lent n ps xs)))))
             ∙ ap (λ z. (ok && not z) && stepsFrom better better-order (entryAt i ps xs) (drop (suc i) (entries (lent n ps xs)))) (sym (r ∙ ap (better e) p ∙ ap (λ y. better y (entryAt (i - 1) ps xs)) q))
 
         later : (m j : ℕ) → m ≡ suc i → m - 1 ≡ j

@@ -44,12 +44,13 @@ pub extern "C" fn merino_build(
     sums: &mut [f32],
     keys: &mut [u64],
     postings_written: &mut u64,
-    offsets_written: &mut u64,
-    components_written: &mut u64,
+    block_offsets_written: &mut u64,
+    summary_components_written: &mut u64,
     entries_written: &mut u64,
     summaries_written: &mut u64,
 ) -> u64
-    ensures { λ r. ⌜ shownBuilt r (now («postings_written» .exit)) (now («offsets_written» .exit)) (now («components_written» .exit)) (now («entries_written» .exit)) (now («summaries_written» .exit))
+    ensures { λ r. ⌜ shownBuilt r (now («postings_written» .exit)) (now («block_offsets_written» .exit)) (now («summary_components_written» .exit)) (now («entries_written» .exit))
+        (now («summaries_written» .exit))
         (lent (outputs (now (postings .exit)) (now («block_offsets» .exit)) (now («summary_components» .exit)) (now («component_offsets» .exit)) (now («summary_ids» .exit)) (now (codes .exit))
         (now (minimums .exit)) (now (steps .exit))) (scratches (now (order .exit)) (now (blocks .exit)) (now (sorted .exit)) (now (known .exit)) (now (taken .exit)) (now (counts .exit))
         (now (starts .exit)) (now (slots .exit)) (now (weights .exit)) (now (sums .exit)) (now (keys .exit))))
@@ -99,8 +100,8 @@ pub extern "C" fn merino_build(
     c_build::show_built(
         answer,
         postings_written,
-        offsets_written,
-        components_written,
+        block_offsets_written,
+        summary_components_written,
         entries_written,
         summaries_written,
     )

@@ -27,6 +27,6 @@ module _ (g : Input) (s : Scratches) (b : ListBlocks) (s1 : Scratches) (e : bloc
           → finished (layout.left r o' keys' counts' sums' starts') order' blocks' ≡ finishedBy z (g .dimension) (g .summarization) (g .documents) (length (g .ids)) o (s1 .order) (s1 .blocks) (s1 .keys) (s1 .counts) (s1 .sums) (s1 .starts)
           → leaves r (lent o' (scratches order' blocks' (s1 .sorted) (s1 .known) (s1 .taken) counts' starts' (s1 .slots) (s1 .weights) sums' keys')) ≡ builds g (lent o s)
       go (made.Refused x) w f =
-          (λ j. leaves (f j .written .answer) (lent (f j .written .output) (scratches (f j .order) (f j .blocks) (s1 .sorted) (s1 .known) (s1 .taken) (f j .written .places) (f j .written .counts) (s1 .slots) (s1 .weights) (f j .written .maxima) (f j .written .keys))))
+          (λ j. leaves (f j .written .answer) (lent (f j .written .output) (scratches (f j .order) (f j .blocks) (s1 .sorted) (s1 .known) (s1 .taken) (f j .written .places) (f j .written .entryCounts) (s1 .slots) (s1 .weights) (f j .written .maxima) (f j .written .keys))))
           ∙ refused-so g s b s1 e x o (clearedOutput o) w refl
       go (made.Offsets n) w f = written-so g s b s1 e n w narrow fit o r o' order' blocks' counts' starts' keys' sums' (ap (λ f. f .written) f) (ap (λ f. f .order) f) lo (ap (λ f. f .blocks) f) lb

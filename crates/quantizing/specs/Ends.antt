@@ -1,5 +1,5 @@
 -- What holds of the values of an accepted list, and of its least and greatest.
-use mathlib.Core.List.{List, []}
+use mathlib.Core.List.{List}
 use Prim.Native.Nat.{ℕ, _<_}
 use lib.ListN.{length, getD}
 use lib.Dec.{T}

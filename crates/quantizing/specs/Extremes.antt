@@ -1,5 +1,4 @@
 -- A value that an f32 holds.
-use mathlib.Core.List.{[]}
 use lib.Dec.{T}
 use lib.Ieee.{Float, binary32, fits}
 

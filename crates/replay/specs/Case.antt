@@ -45,7 +45,7 @@ used odd = outputs (replicate 64 5) (replicate 64 6) (replicate 32 7) (replicate
 -- 0, and as many numbers in front of the outputs as the original has
 abbrev pub sizesHeld : List ℕ → InNumbers → Bool
 sizesHeld w z =
-    eqb (z .number) 0 && eqb (z .postingsWritten) (length (sliceAt w 21 w)) && eqb (z .offsetsWritten) (length (sliceAt w 22 w)) && eqb (z .componentsWritten) (length (sliceAt w 23 w))
+    eqb (z .number) 0 && eqb (z .postingsWritten) (length (sliceAt w 21 w)) && eqb (z .blockOffsetsWritten) (length (sliceAt w 22 w)) && eqb (z .summaryComponentsWritten) (length (sliceAt w 23 w))
     && eqb (z .entriesWritten) (length (sliceAt w 25 w)) && eqb (z .summariesWritten) (length (sliceAt w 27 w))
 
 -- the original's numbers in front, and past them what was there before

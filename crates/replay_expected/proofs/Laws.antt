@@ -3,13 +3,12 @@ use Prim.Native.Nat.{ℕ, zero, suc, _+_, _<_}
 use native.Mathlib.Omega.{arith}
 use native.Mathlib.Numerals.{add-one}
 use mathlib.Core.Path.{_≡_, refl, sym, ap, _∙_}
-use mathlib.Core.Bool.{Bool, _&&_}
+use mathlib.Core.Bool.{Bool, _&&_, and-assoc}
 use mathlib.Core.List.{List, [], _∷_}
 use lib.ListN.{length, drop, getD}
 use lib.Dec.{eqb, leb, leb·suc-suc}
 use lib.Seq.{drop-nil, drop-length}
 use borrow.Author.Tests.{le-leb, lt-leb}
-use Rattle.sequences.specs.Laws.Lists.{and-assoc}
 use Rattle.replay_expected.specs.Held.{held}
 
 -- the next place
@@ -23,7 +22,7 @@ held-next (x ∷ xs) (e ∷ es) rest (suc i) h = held-next xs es rest i (omega a
 
 pub held-step : (xs es : List ℕ) (rest i : ℕ) (same : Bool) (x e : ℕ) → i < length xs → x ≡ getD xs i 0 → e ≡ getD es i rest
     → same && held (drop i xs) (drop i es) rest ≡ held xs es rest → (same && eqb x e) && held (drop (i + 1) xs) (drop (i + 1) es) rest ≡ held xs es rest
-held-step xs es rest i same x e h p q w = rw (p, q, add-one i) (sym (and-assoc same _ _) ∙ ap (λ b. same && b) (sym (held-next xs es rest i h)) ∙ w)
+held-step xs es rest i same x e h p q w = rw (p, q, add-one i) (and-assoc same _ _ ∙ ap (λ b. same && b) (sym (held-next xs es rest i h)) ∙ w)
 
 none-left : (es : List ℕ) (rest n : ℕ) → held [] (drop n es) rest ≡ leb (length es) n
 unfolding held

@@ -12,7 +12,7 @@ ghost use Rattle.blocking.specs.Limits.{blockLimit};
 ghost use Rattle.refusal.specs.declared.Refusal.the-variants.{NothingToKeep, WrongQuery, WrongDocuments, MalformedList, WrongKeptList, BufferTooShort};
 ghost use Rattle.refusal.specs.First.{_gives_, firstOf};
 ghost use Rattle.documents.specs.Documents.{paired};
-ghost use Rattle.kept_list.specs.Lent.{lent, places};
+ghost use Rattle.kept_list.specs.Lent.{lent};
 ghost use Rattle.sparse_scores.specs.Layout.{arrays};
 ghost use Rattle.sparse_scores.specs.Scores.{scoresOf, putIn};
 ghost use Rattle.search_probe.specs.Probed.{terms, lends, left};

@@ -1,6 +1,6 @@
 -- What one turn of a checking loop does to the test of what is left.
 use mathlib.Core.Path.{_≡_, refl, sym, ap, _∙_}
-use mathlib.Core.Bool.{Bool, true, false, _&&_, cond}
+use mathlib.Core.Bool.{Bool, true, false, _&&_, cond, and-true, and-assoc}
 use mathlib.Core.List.{List, [], _∷_}
 use Prim.Native.Nat.{ℕ, suc, _+_, _-_, _≤_, _<_}
 use native.Mathlib.Omega.{arith}
@@ -14,13 +14,12 @@ use borrow.Author.Tests.{ltb-true, ltb-false, le-ltb, le-leb, lt-leb}
 use Rattle.float32.specs.Laws.BoundLaws.{in-bound-tests}
 use Rattle.quantizing.specs.Quantizing.{stepAllowed}
 use Rattle.sequences.specs.Lists.{every, neverFalls, strictlyRise}
-use Rattle.sequences.specs.Laws.Lists.{and-true, and-assoc}
 use Rattle.search_checks.specs.Counting.{fall, falls, seamAt, seams}
 
 -- ---- each element by itself
 module _ {A : Type 0} (p : A → Bool) (xs : List A) (d : A) where
   pub every-step : (ok t : Bool) (i : ℕ) → i < length xs → t ≡ p (getD xs i d) → ((ok && t) && every p (drop (i + 1) xs)) ≡ (ok && every p (drop i xs))
-  every-step ok t i h e = rw (e, add-one i, drop-cons xs i d h) (sym (and-assoc ok _ _))
+  every-step ok t i h e = rw (e, add-one i, drop-cons xs i d h) (and-assoc ok _ _)
 
   pub every-end : (ok : Bool) (i : ℕ) (r : Bool) → length xs ≤ i → (ok && every p (drop i xs)) ≡ r → ok ≡ r
   every-end ok i r h e = sym (and-true ok) ∙ rw (drop-of-length-le xs h) at e
@@ -63,13 +62,13 @@ seams-short ids (a ∷ b ∷ os) h = omega arith
 
 module _ (ok : Bool) (os : List ℕ) (i : ℕ) (low : 1 ≤ i) where
   pub never-step : i < length os → ((ok && leb (getD os (i - 1) 0) (getD os i 0)) && neverFalls (drop (i + 1 - 1) os)) ≡ (ok && neverFalls (drop (i - 1) os))
-  never-step h = rw (pair-at os i 0 low h, next-at os i 0 low h) (sym (and-assoc ok _ _))
+  never-step h = rw (pair-at os i 0 low h, next-at os i 0 low h) (and-assoc ok _ _)
 
   pub never-end : (r : Bool) → length os ≤ i → (ok && neverFalls (drop (i - 1) os)) ≡ r → ok ≡ r
   never-end r h e = sym (and-true ok) ∙ rw (never-short (drop (i - 1) os) (few-left os i 0 low h)) at e
 
   pub rise-step : i < length os → ((ok && ltb (getD os (i - 1) 0) (getD os i 0)) && strictlyRise (drop (i + 1 - 1) os)) ≡ (ok && strictlyRise (drop (i - 1) os))
-  rise-step h = rw (pair-at os i 0 low h, next-at os i 0 low h) (sym (and-assoc ok _ _))
+  rise-step h = rw (pair-at os i 0 low h, next-at os i 0 low h) (and-assoc ok _ _)
 
   pub rise-end : (r : Bool) → length os ≤ i → (ok && strictlyRise (drop (i - 1) os)) ≡ r → ok ≡ r
   rise-end r h e = sym (and-true ok) ∙ rw (rise-short (drop (i - 1) os) (few-left os i 0 low h)) at e

@@ -5,7 +5,7 @@ ghost use Prim.Native.Nat.{_≤_, _<_, _+_, _%_};
 ghost use lib.ListN.{length, getD, drop, set};
 ghost use lib.Dec.{ltb};
 ghost use lib.Ieee.{ofBits, binary32};
-ghost use Rattle.search_page.specs.Through.{laying, laidSum, sieveOf, sought, looked, stepped, through, sumOf, readThrough};
+ghost use Rattle.search_page.specs.Through.{laying, laidSum, sieveOf, sought, looked, through, sumOf, readThrough};
 
 // What reading a page says: its terms break their rules (14), or its score.
 pub enum Reading {

@@ -1,5 +1,5 @@
 -- A summary that can be stored.
-use mathlib.Core.List.{List, [], map}
+use mathlib.Core.List.{List, map}
 use Rattle.sequences.specs.Groups.{RisesFrom}
 use Rattle.documents.specs.Documents.{Term}
 use Rattle.quantizing.specs.Demand3.{F32s}

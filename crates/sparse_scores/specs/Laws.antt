@@ -1,5 +1,4 @@
 pub mod ReadBack
-pub mod Stays
 pub mod Walk
 pub mod WalkLaws
 pub mod Promises

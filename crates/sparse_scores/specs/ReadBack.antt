@@ -1,6 +1,6 @@
 -- A summary as it is read back.
 use Prim.Native.Nat.{ℕ}
-use mathlib.Core.List.{List, [], map, zipWith}
+use mathlib.Core.List.{List, map, zipWith}
 use Rattle.sequences.specs.Lists.{between, joined, withKey}
 use Rattle.documents.specs.Documents.{Term, term}
 use Rattle.sparse_scores.specs.Layout.{Layout, entries}

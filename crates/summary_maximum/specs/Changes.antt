@@ -1,6 +1,6 @@
 -- The components of terms, and the maximum of each.
 use Prim.Native.Nat.{ℕ}
-use mathlib.Core.List.{List, [], map}
+use mathlib.Core.List.{List, map}
 use lib.Ieee.{Float}
 use Rattle.documents.specs.Documents.{Term, valuesAt}
 use Rattle.summary_maximum.specs.Maximum.{maximum}

@@ -7,11 +7,11 @@ use crate::ours;
 use crate::slips::Slip;
 
 pub fn same_list(a: &List, b: &original::List) -> bool {
-    a.packed == b.packed
+    a.postings == b.packed
         && a.block_offsets == b.block_offsets
-        && a.components == b.components
+        && a.summary_components == b.components
         && a.component_offsets == b.component_offsets
-        && a.ids == b.ids
+        && a.summary_ids == b.ids
         && a.codes == b.codes
         && bits(&a.minimums) == bits(&b.minimums)
         && bits(&a.steps) == bits(&b.steps)
@@ -19,11 +19,11 @@ pub fn same_list(a: &List, b: &original::List) -> bool {
 
 pub fn of_model(l: &List) -> original::List {
     original::List {
-        packed: l.packed.clone(),
+        packed: l.postings.clone(),
         block_offsets: l.block_offsets.clone(),
-        components: l.components.clone(),
+        components: l.summary_components.clone(),
         component_offsets: l.component_offsets.clone(),
-        ids: l.ids.clone(),
+        ids: l.summary_ids.clone(),
         codes: l.codes.clone(),
         minimums: l.minimums.clone(),
         steps: l.steps.clone(),
@@ -164,7 +164,7 @@ fn searches_agree(r: &mut Random, g: BuildInput, slip: Slip) -> Option<bool> {
     };
     // components spread out in the same order, so that pages are read by the query's table, through its sieve, and with shared remainders
     let spread = if g.dimension < 1000 { r.pick(&[1, 1, 4096, 7001]) } else { 1 };
-    let apart = [&mut input.query_components, &mut input.components, &mut input.list.components];
+    let apart = [&mut input.query_components, &mut input.components, &mut input.list.summary_components];
     apart.into_iter().flatten().for_each(|c| *c *= spread);
     let dimension = g.dimension as usize * spread as usize;
     let mut lent = b.clone();

@@ -20,11 +20,11 @@ pub fn same_buffers(a: &SearchBuffers, b: &SearchBuffers) -> bool {
 }
 
 pub fn same_output(a: &List, b: &List) -> bool {
-    a.packed == b.packed
+    a.postings == b.postings
         && a.block_offsets == b.block_offsets
-        && a.components == b.components
+        && a.summary_components == b.summary_components
         && a.component_offsets == b.component_offsets
-        && a.ids == b.ids
+        && a.summary_ids == b.summary_ids
         && a.codes == b.codes
         && bits(&a.minimums) == bits(&b.minimums)
         && bits(&a.steps) == bits(&b.steps)

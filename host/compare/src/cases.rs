@@ -176,11 +176,11 @@ pub fn kept(r: &mut Random, k: u64, starts: u64) -> Vec<(u64, f32)> {
 pub fn build_buffers(r: &mut Random, g: &BuildInput, l: &List) -> BuildBuffers {
     let mut more = |n: usize| n + if r.chance(3) { r.below(4) as usize } else { 0 };
     let output = List {
-        packed: vec![5; more(l.packed.len())],
+        postings: vec![5; more(l.postings.len())],
         block_offsets: vec![6; more(l.block_offsets.len())],
-        components: vec![7; more(l.components.len())],
+        summary_components: vec![7; more(l.summary_components.len())],
         component_offsets: vec![8; more(l.component_offsets.len())],
-        ids: vec![9; more(l.ids.len())],
+        summary_ids: vec![9; more(l.summary_ids.len())],
         codes: vec![10; more(l.codes.len())],
         minimums: vec![-11.0; more(l.minimums.len())],
         steps: vec![-12.0; more(l.steps.len())],

@@ -43,16 +43,16 @@ pub fn damage(r: &mut Random, g: &mut SearchInput, b: &mut SearchBuffers) {
         5 => cut(r, &mut g.values),
         6 => { let d = r.clone().next(); if let Some(x) = at(r, &mut g.components) { *x = (*x as u64 ^ (d & 3)) as u32 } }
         7 => { let v = any_float(r); if let Some(x) = at(r, &mut g.values) { *x = v } }
-        8 => cut(r, &mut l.packed),
-        9 => { let mut q = r.clone(); if let Some(x) = at(r, &mut l.packed) { *x = near(&mut q, *x) } }
+        8 => cut(r, &mut l.postings),
+        9 => { let mut q = r.clone(); if let Some(x) = at(r, &mut l.postings) { *x = near(&mut q, *x) } }
         10 => cut(r, &mut l.block_offsets),
         11 => { let mut q = r.clone(); if let Some(x) = at(r, &mut l.block_offsets) { *x = near(&mut q, *x) } }
-        12 => cut(r, &mut l.components),
-        13 => { let mut q = r.clone(); if let Some(x) = at(r, &mut l.components) { *x = near(&mut q, *x as u64) as u32 } }
+        12 => cut(r, &mut l.summary_components),
+        13 => { let mut q = r.clone(); if let Some(x) = at(r, &mut l.summary_components) { *x = near(&mut q, *x as u64) as u32 } }
         14 => cut(r, &mut l.component_offsets),
         15 => { let mut q = r.clone(); if let Some(x) = at(r, &mut l.component_offsets) { *x = near(&mut q, *x) } }
-        16 => cut(r, &mut l.ids),
-        17 => { let mut q = r.clone(); if let Some(x) = at(r, &mut l.ids) { *x = near(&mut q, *x as u64) as u16 } }
+        16 => cut(r, &mut l.summary_ids),
+        17 => { let mut q = r.clone(); if let Some(x) = at(r, &mut l.summary_ids) { *x = near(&mut q, *x as u64) as u16 } }
         18 => cut(r, &mut l.codes),
         19 => { let mut q = r.clone(); if let Some(x) = at(r, &mut l.codes) { *x = q.next() as u8 } }
         20 => { cut(r, &mut l.minimums) }
@@ -96,11 +96,11 @@ pub fn damage_build(r: &mut Random, g: &mut BuildInput) {
 pub fn cut_build_buffer(r: &mut Random, b: &mut BuildBuffers) {
     let (o, s) = (&mut b.output, &mut b.scratch);
     match r.below(19) {
-        0 => cut(r, &mut o.packed),
+        0 => cut(r, &mut o.postings),
         1 => cut(r, &mut o.block_offsets),
-        2 => cut(r, &mut o.components),
+        2 => cut(r, &mut o.summary_components),
         3 => cut(r, &mut o.component_offsets),
-        4 => cut(r, &mut o.ids),
+        4 => cut(r, &mut o.summary_ids),
         5 => cut(r, &mut o.codes),
         6 => cut(r, &mut o.minimums),
         7 => cut(r, &mut o.steps),

@@ -28,11 +28,11 @@ pub enum Summary {
 /// A posting list, built or to be searched.
 #[derive(Clone, Debug, Default)]
 pub struct List {
-    pub packed: Vec<u64>,
+    pub postings: Vec<u64>,
     pub block_offsets: Vec<u64>,
-    pub components: Vec<u32>,
+    pub summary_components: Vec<u32>,
     pub component_offsets: Vec<u64>,
-    pub ids: Vec<u16>,
+    pub summary_ids: Vec<u16>,
     pub codes: Vec<u8>,
     pub minimums: Vec<f32>,
     pub steps: Vec<f32>,
@@ -328,32 +328,32 @@ pub enum Found {
 
 pub fn list_wrong(l: &List) -> bool {
     let summaries = l.minimums.len();
-    if summaries > BLOCK_LIMIT as usize || l.packed.len() > LIST_LIMIT {
+    if summaries > BLOCK_LIMIT as usize || l.postings.len() > LIST_LIMIT {
         return true;
     }
     if summaries > 0 {
         if l.block_offsets.len() != summaries + 1
             || l.block_offsets.windows(2).any(|w| w[0] > w[1])
-            || l.block_offsets[summaries] > l.packed.len() as u64
+            || l.block_offsets[summaries] > l.postings.len() as u64
         {
             return true;
         }
     }
-    if l.steps.len() != summaries || l.ids.len() != l.codes.len() || l.component_offsets.len() != l.components.len() + 1 {
+    if l.steps.len() != summaries || l.summary_ids.len() != l.codes.len() || l.component_offsets.len() != l.summary_components.len() + 1 {
         return true;
     }
-    if !rises(&l.components)
+    if !rises(&l.summary_components)
         || l.component_offsets[0] != 0
         || l.component_offsets.windows(2).any(|w| w[0] > w[1])
-        || *l.component_offsets.last().unwrap() != l.ids.len() as u64
+        || *l.component_offsets.last().unwrap() != l.summary_ids.len() as u64
     {
         return true;
     }
-    if l.ids.iter().any(|&i| i as usize >= summaries) {
+    if l.summary_ids.iter().any(|&i| i as usize >= summaries) {
         return true;
     }
     for w in l.component_offsets.windows(2) {
-        if l.ids[w[0] as usize..w[1] as usize].windows(2).any(|p| p[0] >= p[1]) {
+        if l.summary_ids[w[0] as usize..w[1] as usize].windows(2).any(|p| p[0] >= p[1]) {
             return true;
         }
     }
@@ -363,9 +363,9 @@ pub fn list_wrong(l: &List) -> bool {
 pub fn block_scores(slip: Slip, l: &List, query_components: &[u32], query_values: &[f32]) -> Vec<f32> {
     let mut scores = vec![0.0_f32; l.minimums.len()];
     for (&q, &w) in query_components.iter().zip(query_values) {
-        if let Ok(i) = l.components.binary_search(&q) {
+        if let Ok(i) = l.summary_components.binary_search(&q) {
             for e in l.component_offsets[i] as usize..l.component_offsets[i + 1] as usize {
-                let s = l.ids[e] as usize;
+                let s = l.summary_ids[e] as usize;
                 scores[s] += read_back(slip, l.minimums[s], l.steps[s], l.codes[e]) * w;
             }
         }
@@ -432,7 +432,7 @@ pub fn search(slip: Slip, g: &SearchInput, b: &mut SearchBuffers) -> Found {
             if scores[block] < bar || (slip == Slip::SkipAtMost && scores[block] == bar) {
                 skipped += 1;
                 if slip == Slip::MarkSkipped {
-                    for p in &l.packed[from..to] {
+                    for p in &l.postings[from..to] {
                         if let Some(v) = b.visits.get_mut(start_of(*p) as usize) {
                             *v = 1;
                         }
@@ -442,7 +442,7 @@ pub fn search(slip: Slip, g: &SearchInput, b: &mut SearchBuffers) -> Found {
             }
         }
         for position in from..to {
-            let packed = l.packed[position];
+            let packed = l.postings[position];
             let (start, length) = (start_of(packed) as usize, length_of(packed) as usize);
             if start <= terms && b.visits[start] != 0 {
                 if slip == Slip::CountVisited {

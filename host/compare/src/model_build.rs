@@ -243,11 +243,11 @@ fn layout(slip: Slip, summaries: &[Terms]) -> List {
     l.component_offsets.push(0);
     for (i, e) in entries.iter().enumerate() {
         if i == 0 || entries[i - 1].0 != e.0 {
-            l.components.push(e.0);
+            l.summary_components.push(e.0);
             l.component_offsets.push(i as u64);
         }
         *l.component_offsets.last_mut().unwrap() = i as u64 + 1;
-        l.ids.push(e.1);
+        l.summary_ids.push(e.1);
         l.codes.push(e.2);
     }
     l
@@ -334,7 +334,7 @@ pub fn build(slip: Slip, g: &BuildInput, scratch: bool, room: impl Fn(&List) -> 
     }
     let some: Vec<Terms> = summaries.iter().filter(|s| !s.is_empty()).cloned().collect();
     let mut l = layout(slip, &some);
-    l.packed = order.iter().map(|&i| pack(d.range(i).0, d.range(i).1).unwrap()).collect();
+    l.postings = order.iter().map(|&i| pack(d.range(i).0, d.range(i).1).unwrap()).collect();
     l.block_offsets = offsets;
     if !room(&l) {
         return Err(4);
@@ -419,18 +419,18 @@ pub struct BuildBuffers {
 #[derive(Clone, Copy, Debug, Default, PartialEq, Eq)]
 pub struct Written {
     pub postings: u64,
-    pub offsets: u64,
-    pub components: u64,
+    pub block_offsets: u64,
+    pub summary_components: u64,
     pub entries: u64,
     pub summaries: u64,
 }
 
 fn fits(l: &List, room: &List) -> bool {
-    l.packed.len() <= room.packed.len()
+    l.postings.len() <= room.postings.len()
         && l.block_offsets.len() <= room.block_offsets.len()
-        && l.components.len() <= room.components.len()
+        && l.summary_components.len() <= room.summary_components.len()
         && l.component_offsets.len() <= room.component_offsets.len()
-        && l.ids.len() <= room.ids.len()
+        && l.summary_ids.len() <= room.summary_ids.len()
         && l.codes.len() <= room.codes.len()
         && l.minimums.len() <= room.minimums.len()
         && l.steps.len() <= room.steps.len()
@@ -445,11 +445,11 @@ fn lay<T: Copy + Default>(slip: Slip, result: &[T], buffer: &mut [T]) {
 }
 
 fn clear_output(o: &mut List) {
-    o.packed.fill(0);
+    o.postings.fill(0);
     o.block_offsets.fill(0);
-    o.components.fill(0);
+    o.summary_components.fill(0);
     o.component_offsets.fill(0);
-    o.ids.fill(0);
+    o.summary_ids.fill(0);
     o.codes.fill(0);
     o.minimums.fill(0.0);
     o.steps.fill(0.0);
@@ -471,19 +471,19 @@ pub fn build_into(slip: Slip, g: &BuildInput, b: &mut BuildBuffers) -> Result<Wr
         }
         Ok(l) => {
             let o = &mut b.output;
-            lay(slip, &l.packed, &mut o.packed);
+            lay(slip, &l.postings, &mut o.postings);
             lay(slip, &l.block_offsets, &mut o.block_offsets);
-            lay(slip, &l.components, &mut o.components);
+            lay(slip, &l.summary_components, &mut o.summary_components);
             lay(slip, &l.component_offsets, &mut o.component_offsets);
-            lay(slip, &l.ids, &mut o.ids);
+            lay(slip, &l.summary_ids, &mut o.summary_ids);
             lay(slip, &l.codes, &mut o.codes);
             lay(slip, &l.minimums, &mut o.minimums);
             lay(slip, &l.steps, &mut o.steps);
             Ok(Written {
-                postings: l.packed.len() as u64,
-                offsets: l.block_offsets.len() as u64,
-                components: l.components.len() as u64,
-                entries: l.ids.len() as u64,
+                postings: l.postings.len() as u64,
+                block_offsets: l.block_offsets.len() as u64,
+                summary_components: l.summary_components.len() as u64,
+                entries: l.summary_ids.len() as u64,
                 summaries: l.minimums.len() as u64,
             })
         }

@@ -60,11 +60,11 @@ pub fn search(g: &SearchInput, b: &mut SearchBuffers) -> Found {
             g.factor,
             g.components.as_ptr(), g.components.len(),
             g.values.as_ptr(), g.values.len(),
-            l.packed.as_ptr(), l.packed.len(),
+            l.postings.as_ptr(), l.postings.len(),
             l.block_offsets.as_ptr(), l.block_offsets.len(),
-            l.components.as_ptr(), l.components.len(),
+            l.summary_components.as_ptr(), l.summary_components.len(),
             l.component_offsets.as_ptr(), l.component_offsets.len(),
-            l.ids.as_ptr(), l.ids.len(),
+            l.summary_ids.as_ptr(), l.summary_ids.len(),
             l.codes.as_ptr(), l.codes.len(),
             l.minimums.as_ptr(), l.minimums.len(),
             l.steps.as_ptr(), l.steps.len(),
@@ -114,11 +114,11 @@ pub fn timed_search(g: &SearchInput, b: &mut SearchBuffers) -> (Found, f64) {
             g.factor,
             g.components.as_ptr(), g.components.len(),
             g.values.as_ptr(), g.values.len(),
-            l.packed.as_ptr(), l.packed.len(),
+            l.postings.as_ptr(), l.postings.len(),
             l.block_offsets.as_ptr(), l.block_offsets.len(),
-            l.components.as_ptr(), l.components.len(),
+            l.summary_components.as_ptr(), l.summary_components.len(),
             l.component_offsets.as_ptr(), l.component_offsets.len(),
-            l.ids.as_ptr(), l.ids.len(),
+            l.summary_ids.as_ptr(), l.summary_ids.len(),
             l.codes.as_ptr(), l.codes.len(),
             l.minimums.as_ptr(), l.minimums.len(),
             l.steps.as_ptr(), l.steps.len(),
@@ -161,11 +161,11 @@ pub fn build(g: &BuildInput, b: &mut BuildBuffers, noise: u64) -> Option<Result<
     let (blocking, block_size, fraction, minimum, cut) = blocking_numbers(g.blocking, noise);
     let (summarization, n_components, energy) = summary_numbers(g.summary, noise);
     let (o, s) = (&b.output, &b.scratch);
-    let mut postings = Guarded::new(&o.packed, N);
+    let mut postings = Guarded::new(&o.postings, N);
     let mut block_offsets = Guarded::new(&o.block_offsets, N);
-    let mut components = Guarded::new(&o.components, N as u32);
+    let mut components = Guarded::new(&o.summary_components, N as u32);
     let mut component_offsets = Guarded::new(&o.component_offsets, N);
-    let mut ids = Guarded::new(&o.ids, 0xbeef);
+    let mut ids = Guarded::new(&o.summary_ids, 0xbeef);
     let mut codes = Guarded::new(&o.codes, 0xaa);
     let mut minimums = Guarded::new(&o.minimums, F);
     let mut steps = Guarded::new(&o.steps, F);
@@ -214,11 +214,11 @@ pub fn build(g: &BuildInput, b: &mut BuildBuffers, noise: u64) -> Option<Result<
         )
     };
     b.output = List {
-        packed: postings.back(),
+        postings: postings.back(),
         block_offsets: block_offsets.back(),
-        components: components.back(),
+        summary_components: components.back(),
         component_offsets: component_offsets.back(),
-        ids: ids.back(),
+        summary_ids: ids.back(),
         codes: codes.back(),
         minimums: minimums.back(),
         steps: steps.back(),
@@ -236,8 +236,8 @@ pub fn build(g: &BuildInput, b: &mut BuildBuffers, noise: u64) -> Option<Result<
         sums: sums.back(),
         keys: keys.back(),
     };
-    let [postings, offsets, components, entries, summaries] = w;
-    let written = Written { postings, offsets, components, entries, summaries };
+    let [postings, block_offsets, summary_components, entries, summaries] = w;
+    let written = Written { postings, block_offsets, summary_components, entries, summaries };
     Some(if number == 0 {
         Ok(written)
     } else {

@@ -21,7 +21,7 @@ pub struct PostingList {
     /// Where each block starts among the postings, and where the last one ends.
     pub block_offsets: Vec<u64>,
     /// The components that some summary has, strictly rising.
-    pub components: Vec<u32>,
+    pub summary_components: Vec<u32>,
     /// Where the entries of each component start, and where the last one's end.
     pub component_offsets: Vec<u64>,
     /// The summary of each entry, strictly rising within a component.
@@ -40,7 +40,7 @@ impl Default for PostingList {
         PostingList {
             postings: Vec::new(),
             block_offsets: Vec::new(),
-            components: Vec::new(),
+            summary_components: Vec::new(),
             component_offsets: vec![0],
             summary_ids: Vec::new(),
             codes: Vec::new(),
@@ -153,7 +153,7 @@ impl PostingList {
     /// let list = PostingList::build(documents, 2, &[0, 2], &[], &fixed)?;
     /// assert_eq!(list.postings, [0 * 65_536 + 1, 2 * 65_536 + 2]);
     /// assert_eq!(list.block_offsets, [0, 1, 2]);
-    /// assert_eq!(list.components, [0]);
+    /// assert_eq!(list.summary_components, [0]);
     /// assert_eq!(list.minimums, [1.0, 1.0]);
     /// // a dimension that some component reaches
     /// assert_eq!(PostingList::build(documents, 1, &[0, 2], &[], &fixed), Err(Refusal::WrongTerms));
@@ -187,7 +187,7 @@ impl PostingList {
         let mut sums = vec![0f32; needs.sums];
         let mut keys = vec![0u64; needs.keys];
         let mut written = [0u64; 5];
-        let [postings_written, offsets_written, components_written, entries_written, summaries_written] = &mut written;
+        let [postings_written, block_offsets_written, summary_components_written, entries_written, summaries_written] = &mut written;
         // sound: every buffer that is written was made here, and each pointer goes with its own length
         let number = unsafe {
             raw::merino_build(
@@ -214,8 +214,8 @@ impl PostingList {
                 list.postings.len(),
                 list.block_offsets.as_mut_ptr(),
                 list.block_offsets.len(),
-                list.components.as_mut_ptr(),
-                list.components.len(),
+                list.summary_components.as_mut_ptr(),
+                list.summary_components.len(),
                 list.component_offsets.as_mut_ptr(),
                 list.component_offsets.len(),
                 list.summary_ids.as_mut_ptr(),
@@ -249,8 +249,8 @@ impl PostingList {
                 keys.as_mut_ptr(),
                 keys.len(),
                 postings_written,
-                offsets_written,
-                components_written,
+                block_offsets_written,
+                summary_components_written,
                 entries_written,
                 summaries_written,
             )
@@ -278,7 +278,7 @@ impl PostingList {
         PostingList {
             postings: vec![0; n],
             block_offsets: vec![0; blocks + 1],
-            components: vec![0; components],
+            summary_components: vec![0; components],
             component_offsets: vec![0; components + 1],
             summary_ids: vec![0; entries],
             codes: vec![0; entries],
@@ -288,15 +288,15 @@ impl PostingList {
     }
 
     /// What was written, without the rest.
-    fn shrink(&mut self, [postings, offsets, components, entries, summaries]: [usize; 5]) {
+    fn shrink(&mut self, [postings, block_offsets, summary_components, entries, summaries]: [usize; 5]) {
         fn cut<T>(v: &mut Vec<T>, n: usize) {
             v.truncate(n);
             v.shrink_to_fit();
         }
         cut(&mut self.postings, postings);
-        cut(&mut self.block_offsets, offsets);
-        cut(&mut self.components, components);
-        cut(&mut self.component_offsets, components + 1);
+        cut(&mut self.block_offsets, block_offsets);
+        cut(&mut self.summary_components, summary_components);
+        cut(&mut self.component_offsets, summary_components + 1);
         cut(&mut self.summary_ids, entries);
         cut(&mut self.codes, entries);
         cut(&mut self.minimums, summaries);
@@ -317,7 +317,7 @@ impl PostingList {
     /// let list = PostingList {
     ///     postings: vec![1, 65_536 + 2],
     ///     block_offsets: vec![0, 2],
-    ///     components: vec![0],
+    ///     summary_components: vec![0],
     ///     component_offsets: vec![0, 1],
     ///     summary_ids: vec![0],
     ///     codes: vec![0],
@@ -347,7 +347,7 @@ impl PostingList {
     /// let list = PostingList {
     ///     postings: vec![1, 65_536 + 1],
     ///     block_offsets: vec![0, 1, 2],
-    ///     components: vec![0],
+    ///     summary_components: vec![0],
     ///     component_offsets: vec![0, 2],
     ///     summary_ids: vec![0, 1],
     ///     codes: vec![0, 0],
@@ -406,8 +406,8 @@ impl PostingList {
                 self.postings.len(),
                 self.block_offsets.as_ptr(),
                 self.block_offsets.len(),
-                self.components.as_ptr(),
-                self.components.len(),
+                self.summary_components.as_ptr(),
+                self.summary_components.len(),
                 self.component_offsets.as_ptr(),
                 self.component_offsets.len(),
                 self.summary_ids.as_ptr(),

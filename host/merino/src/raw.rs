@@ -138,8 +138,8 @@ extern "C" {
         keys: *mut u64,
         keys_len: usize,
         postings_written: *mut u64,
-        offsets_written: *mut u64,
-        components_written: *mut u64,
+        block_offsets_written: *mut u64,
+        summary_components_written: *mut u64,
         entries_written: *mut u64,
         summaries_written: *mut u64,
     ) -> u64;

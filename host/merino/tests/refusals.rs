@@ -7,7 +7,7 @@ fn list() -> PostingList {
     PostingList {
         postings: vec![1, 65_536 + 1],
         block_offsets: vec![0, 2],
-        components: vec![0],
+        summary_components: vec![0],
         component_offsets: vec![0, 1],
         summary_ids: vec![0],
         codes: vec![0],

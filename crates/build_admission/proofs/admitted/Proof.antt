@@ -1,7 +1,8 @@
 -- Each answer is the first fault that the tests before it left over.
 use lib.ListN.{take}
 use Rattle.documents.specs.Documents.{documents}
-use Rattle.build_admission.proofs.Laws.{used-are, taken-long, refuses-limits, refuses-documents, refuses-terms, refuses-starts, refuses-lengths, leaves-blocking}
+use Rattle.build_admission.specs.Laws.Used.{used-are, taken-long}
+use Rattle.build_admission.proofs.Laws.{refuses-limits, refuses-documents, refuses-terms, refuses-starts, refuses-lengths, leaves-blocking}
 use borrow.Author.Needs.{needs}
 use Rattle.build_admission.proofs.admitted.Statement.{statement}
 use Rattle.build_admission.proofs.admitted.Tie as tie

@@ -4,7 +4,7 @@ use native.Mathlib.Omega.{arith}
 use native.Mathlib.Decide.{ℕ-discrete}
 use mathlib.Core.Path.{_≡_, refl, sym, ap, _∙_, subst}
 use mathlib.Core.Bool.{Bool, true, false, not, _||_, true≢false}
-use mathlib.Core.List.{List, [], _∷_, List·Permᴰ}
+use mathlib.Core.List.{List, [], _∷_}
 use lib.ListN.{length, length-map}
 use lib.Dec.{ltb, eqb}
 use lib.Ieee.{Float}
@@ -15,7 +15,7 @@ use Rattle.configuration.specs.declared.BlockingStrategy.the-variants.{FixedSiz
 use Rattle.configuration.specs.declared.ClusteringAlgorithm.{ClusteringAlgorithm}
 use Rattle.sequences.specs.Lists.{lastOr, joined, offsetsFrom, neverFalls}
 use Rattle.sequences.specs.Laws.Groups.{offsets-rise, offsets-count, offsets-last}
-use Rattle.sequences.specs.Laws.Lists.{between-count, never-test}
+use Rattle.sequences.specs.Laws.Lists.{between-count, never-test, permuted-length}
 use Rattle.blocking.specs.Limits.{blockLimit, centroidLimit}
 use Rattle.blocking.specs.Laws.Limits.{centroids-within}
 use Rattle.blocking.specs.Blocking.{centroidCount}
@@ -69,14 +69,8 @@ in-clusters-long : (bs : List (List ℕ)) → length ((inClusters bs) .documents
 in-clusters-long [] = refl
 in-clusters-long (b ∷ bs) = refl
 
-permuted-long : {A : Type 0} {l r : List A} → List·Permᴰ l r → length l ≡ length r
-permuted-long List·Permᴰ.List·Permᴰ·nil = refl
-permuted-long (List·Permᴰ.List·Permᴰ·cons e d) = ap suc (permuted-long d)
-permuted-long (List·Permᴰ.List·Permᴰ·swap e f) = refl
-permuted-long (List·Permᴰ.List·Permᴰ·trans d e) = permuted-long d ∙ permuted-long e
-
 pub clusters-long : (k : ClusteringAlgorithm) (minimum : ℕ) (g : Input) → length (joined (clusters (assignedIn k minimum g))) ≡ length (g .ids)
-clusters-long k minimum g = permuted-long (clusters-share (assignedIn k minimum g)) ∙ ap length (assigned-documents k minimum g)
+clusters-long k minimum g = permuted-length (clusters-share (assignedIn k minimum g)) ∙ ap length (assigned-documents k minimum g)
 
 pub as-many : (g : Input) → length (blocks g .documents) ≡ length (g .ids)
 unfolding blocks

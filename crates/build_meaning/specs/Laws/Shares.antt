@@ -19,10 +19,6 @@ use Rattle.build_meaning.specs.Built.{Input, inClusters, blockedIn, bloc
 use Rattle.build_meaning.specs.Laws.Built.{assignedIn}
 
 -- ---- clusters
-map-map : {A B C : Type 0} (f : B → C) (g : A → B) (l : List A) → map f (map g l) ≡ map (λ x. f (g x)) l
-map-map f g [] = refl
-map-map f g (x ∷ l) = ap (λ z. f (g x) ∷ z) (map-map f g l)
-
 permutes-joined : {A : Type 0} (f g : ℕ → List A) → ((k : ℕ) → List·Permᴰ (f k) (g k)) → (ks : List ℕ) → List·Permᴰ (joined (map f ks)) (joined (map g ks))
 permutes-joined f g h [] = List·Permᴰ.List·Permᴰ·nil
 permutes-joined f g h (k ∷ ks) = List·Permᴰ.List·Permᴰ·trans (Permᴰ·append-right (joined (map f ks)) (h k)) (Permᴰ·append-left (g k) (permutes-joined f g h ks))

@@ -43,20 +43,23 @@ module _ {A : Type 0} (P : A → Type 0) where
   each-between (a ∷ []) xs e = tt
   each-between (a ∷ b ∷ os) xs e = (each-take P (b - a) (drop a xs) (each-drop P a xs e), each-between (b ∷ os) xs e)
 
--- ---- each document of a block is listed
+-- ---- each document of the list's blocks is listed
 in-clusters-each : (P : ℕ → Type 0) (bs : List (List ℕ)) → EachOf P (joined bs) → EachOf P ((inClusters bs) .documents)
 in-clusters-each P [] e = tt
 in-clusters-each P (b ∷ bs) e = e
 
-pub blocks-each : (P : ℕ → Type 0) (g : Input) → EachOf P (g .ids) → EachOf (EachOf P) (blockDocuments g)
+pub documents-each : (P : ℕ → Type 0) (g : Input) → EachOf P (g .ids) → EachOf P (blocks g .documents)
 unfolding blocks
-blocks-each P g e = each-between P (blockedIn (g .blocking) g .blockOffsets) (blockedIn (g .blocking) g .documents) (go (g .blocking))
+documents-each P g e = go (g .blocking)
   where
     go : (k : BlockingStrategy) → EachOf P (blockedIn k g .documents)
     go (FixedSize size) = e
     go (RandomKmeans fraction minimum algorithm) =
         let pairs = assignedIn algorithm minimum g in
         in-clusters-each P (clusters pairs) (each-permuted P (Permᴰ·symm (clusters-share pairs)) (subst (EachOf P) (sym (assigned-documents algorithm minimum g)) e))
+
+pub blocks-each : (P : ℕ → Type 0) (g : Input) → EachOf P (g .ids) → EachOf (EachOf P) (blockDocuments g)
+blocks-each P g e = each-between P (blocks g .blockOffsets) (blocks g .documents) (documents-each P g e)
 
 -- ---- values that are f32 in bound
 pub record Good (v : Float) : Type 0 where

@@ -2,7 +2,8 @@
 use Rattle.documents.specs.Documents.{documents}
 use Rattle.sparse_layout.specs.Keys.{lent}
 use Rattle.build_fill_pass.specs.Filling.{filling}
-use Rattle.build_sizes.specs.Laws.Fronts.{least-long, least-count, front-long, front-count}
+use Rattle.sequences.specs.Laws.Lists.{least-long, least-count}
+use Rattle.build_sizes.specs.Laws.Fronts.{front-long, front-count}
 use Rattle.build_output.specs.Placed.{written}
 use Rattle.build_output.proofs.Passed.{passed, passed-keys, passed-places, passed-maxima, passed-counts, passed-long}
 use borrow.Author.Needs.{needs}

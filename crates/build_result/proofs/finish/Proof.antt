@@ -1,7 +1,8 @@
 -- `finish` meets its contract: the result is written and what it was read from is cleared, or all output is.
 use Rattle.documents.specs.Documents.{documents}
 use Rattle.build_meaning.specs.Building.{outputs}
-use Rattle.build_result.proofs.Laws.{least-long, least-count, refused-end, written-end}
+use Rattle.sequences.specs.Laws.Lists.{least-long, least-count}
+use Rattle.build_result.proofs.Laws.{refused-end, written-end}
 use borrow.Author.Needs.{needs}
 use Rattle.build_result.proofs.finish.Statement.{statement}
 use Rattle.build_result.proofs.finish.Tie as tie

@@ -1,6 +1,7 @@
 -- `build_scratch::scratch_needs` meets its contract: the formula over the list's sizes.
 use Rattle.documents.specs.Documents.{documents}
-use Rattle.build_scratch.proofs.Laws.{taken-count, needs-are}
+use Rattle.build_admission.specs.Laws.Used.{taken-long}
+use Rattle.build_scratch.proofs.Laws.{needs-are}
 use borrow.Author.Needs.{needs}
 use Rattle.build_scratch.proofs.scratch_needs.Statement.{statement}
 use Rattle.build_scratch.proofs.scratch_needs.Tie as tie
@@ -11,7 +12,7 @@ centroids-taken-requires c κs = search needs
 slice-aggregate-term-total : tie.Need-slice-aggregate-term-total
 slice-aggregate-term-total c =
     let start : tie.Start = search needs in
-    let a = start .args in taken-count (a .blocking) (a .centroids .now) (c .before .centroids-taken .result) (c .before .centroids-taken .ensures)
+    let a = start .args in taken-long (a .blocking) (a .centroids .now) (c .before .centroids-taken .result) (c .before .centroids-taken .ensures)
 
 term-total-requires : tie.Need-term-total-requires
 term-total-requires c κs = search needs

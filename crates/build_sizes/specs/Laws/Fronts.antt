@@ -1,5 +1,5 @@
 -- The front of a buffer, cut to a length and written.
-use Prim.Native.Nat.{ℕ, _≤_, min}
+use Prim.Native.Nat.{ℕ, _≤_}
 use native.Mathlib.Omega.{arith}
 use mathlib.Core.Path.{_≡_, refl, sym, ap, _∙_}
 use mathlib.Core.Bool.{Bool, true, false, not, _&&_, cond, true≢false}
@@ -11,13 +11,6 @@ use Rattle.documents.specs.Documents.{Term}
 use Rattle.summary_terms.specs.Answers.{limitOf}
 use Rattle.build_count_pass.specs.Counting.{noneEmpty, fullFirst}
 
--- as many as there are, up to a limit
-pub least-long : (m n k : ℕ) → k ≡ min m n → k ≤ n
-least-long m n k e = omega arith
-
-pub least-count : (l : List ℕ) (m k : ℕ) → k ≡ min m (length l) → k ≡ length (take k l)
-least-count l m k e = sym (length-take-le k l (least-long m (length l) k e))
-
 -- a front that was written keeps its length
 module _ {A : Type 0} (l x : List A) (k : ℕ) (h : k ≤ length l) (e : length x ≡ length (take k l)) where
   pub front-long : k ≤ length (x ++ drop k l)
@@ -28,9 +21,6 @@ module _ {A : Type 0} (l x : List A) (k : ℕ) (h : k ≤ length l) (e : length 
 
   pub front-is : take k (x ++ drop k l) ≡ x
   front-is = take-at x (drop k l) k (e ∙ length-take-le k l h)
-
-pub cut-count : {A : Type 0} (l : List A) (k : ℕ) → k ≤ length l → k ≡ length (take k l)
-cut-count l k h = sym (length-take-le k l h)
 
 -- where no summary is empty, all come before the first empty one
 pub all-full : (tops : List (List Term)) → noneEmpty tops ≡ true → fullFirst tops ≡ tops

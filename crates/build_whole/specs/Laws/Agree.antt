@@ -111,7 +111,7 @@ module _ (g : Input) (s : Scratches) (ok : firstOf (makeTests (g .dimension) (g 
     unfolding summaries
     same-empty = ap (λ tss. not (noneEmpty (topsOf (g .summarization) tss))) uncut ∙ ap not (empty-same (g .summarization) (g .documents) (blockDocuments g))
 
-    pub same-verdict : (w : Counting) (o : Output) → g .dimension ≤ length (w .keys) → g .dimension ≤ length (w .places) → g .dimension ≤ length (w .maxima) → g .dimension ≤ length (w .counts)
+    pub same-verdict : (w : Counting) (o : Output) → g .dimension ≤ length (w .keys) → g .dimension ≤ length (w .places) → g .dimension ≤ length (w .maxima) → g .dimension ≤ length (w .entryCounts)
         → laidVerdict (g .dimension) (g .summarization) (g .documents) (blocks g .documents) (blocks g .blockOffsets) w o
         ≡ firstOf ((someEmpty (summaries g) gives EmptySummary) ∷ (not (outputSuffices (built g) o) gives BufferTooShort) ∷ [])
     unfolding laidVerdict
@@ -127,7 +127,7 @@ module _ (g : Input) (s : Scratches) (ok : firstOf (makeTests (g .dimension) (g 
             le-ltb blockLimit (length (blocks g .blockOffsets) - 1) (omega arith),
             (
               none-short (g .dimension) (length (w .keys)) (length (w .places)) (length (w .maxima)) (length
-                  (w .counts)) hk hp hm hc,
+                  (w .entryCounts)) hk hp hm hc,
               tt,
             ),
           ),

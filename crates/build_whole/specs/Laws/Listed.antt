@@ -1,40 +1,19 @@
--- The documents of a list in block order are those listed; what holds of each listed one holds there too.
+-- The postings of a list whose documents' ranges can be packed are their packed ranges.
 use Prim.Native.Nat.{ℕ}
-use mathlib.Core.Path.{_≡_, refl, sym, ap, _∙_, subst}
+use mathlib.Core.Path.{_≡_, refl, ap, _∙_}
 use mathlib.Core.Bool.{true}
-use mathlib.Core.List.{List, [], _∷_, map, Permᴰ·symm}
+use mathlib.Core.List.{List, [], _∷_, map}
 use lib.Dec.{leb, ltb}
 use borrow.Author.Tests.{ltb-true, leb-true}
-use Rattle.configuration.specs.declared.BlockingStrategy.{BlockingStrategy}
-use Rattle.configuration.specs.declared.BlockingStrategy.the-variants.{FixedSize, RandomKmeans}
-use Rattle.sequences.specs.Lists.{EachOf, joined}
+use Rattle.sequences.specs.Lists.{EachOf}
 use Rattle.sequences.specs.Laws.Lists.{every-each}
 use Rattle.packing.specs.Packing as range
 use Rattle.packing.specs.Laws.Packing.{packs-length}
-use Rattle.sequences.specs.Laws.Each.{each-permuted}
 use Rattle.documents.specs.Documents.{Documents, start, size, packed}
-use Rattle.cluster_meaning.specs.Clusters.{clusters}
-use Rattle.cluster_meaning.specs.Promises.{clusters-share}
 use Rattle.build_admission.specs.Admission.{startsFit, lengthsFit}
-use Rattle.build_meaning.specs.Built.{Input, inClusters, blockedIn, blocks}
-use Rattle.build_meaning.specs.Laws.Built.{assignedIn}
-use Rattle.build_meaning.specs.Laws.Shares.{assigned-documents}
+use Rattle.build_meaning.specs.Built.{Input, blocks}
 use Rattle.build_layout.specs.Laid.{packedNumber, postingOf}
-
-module _ (P : ℕ → Type 0) where
-  in-clusters : (bs : List (List ℕ)) → EachOf P (joined bs) → EachOf P ((inClusters bs) .documents)
-  in-clusters [] e = tt
-  in-clusters (b ∷ bs) e = e
-
-  pub documents-each : (g : Input) → EachOf P (g .ids) → EachOf P (blocks g .documents)
-  unfolding blocks
-  documents-each g e = go (g .blocking)
-    where
-      go : (k : BlockingStrategy) → EachOf P (blockedIn k g .documents)
-      go (FixedSize size) = e
-      go (RandomKmeans fraction minimum algorithm) =
-          let pairs = assignedIn algorithm minimum g in
-          in-clusters (clusters pairs) (each-permuted P (Permᴰ·symm (clusters-share pairs)) (subst (EachOf P) (sym (assigned-documents algorithm minimum g)) e))
+use Rattle.build_meaning.specs.Laws.Stored.{documents-each}
 
 -- ---- a document whose range can be packed
 posting-packed : (d : Documents) (i : ℕ) → ltb (start d i) range.startLimit ≡ true → leb (size d i) range.lengthLimit ≡ true → postingOf d i ≡ packed d i

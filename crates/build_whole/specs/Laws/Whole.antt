@@ -14,6 +14,7 @@ use Rattle.refusal.specs.declared.Verdict.{Verdict}
 use Rattle.refusal.specs.declared.Verdict.the-variants as verdict
 use Rattle.refusal.specs.First.{Test, _gives_, firstOf}
 use Rattle.refusal.specs.Laws.First.{faultless, first-after, first-refused}
+use Rattle.clearing.specs.Laws.Zeros.{zeros-twice, float-zeros-twice}
 use Rattle.build_admission.specs.Admission.{inputTests}
 use Rattle.build_count_pass.specs.Counting.{counting}
 use Rattle.build_meaning.specs.declared.BuildAnswer.{BuildAnswer}
@@ -107,12 +108,6 @@ module _ (g : Input) (s : Scratches) where
           ∙ in-front (blocks g .blockOffsets) (zeros (s .blocks))
 
       -- the rest is zero, and as long as before
-      twice : (l : List ℕ) → zeros (zeros l) ≡ zeros l
-      twice l = ap (λ n. replicate n 0) (length-replicate {A = ℕ} (length l) 0)
-
-      float-twice : (l : List Float) → floatZeros (floatZeros l) ≡ floatZeros l
-      float-twice l = ap (λ n. replicate n (fin false 0 (pos 0))) (length-replicate (length l) (fin false 0 (pos 0)))
-
       module _ (narrow : (k : ℕ) → getD (g .documents .components) k 0 < 4294967296) (fit : (k : ℕ) → T (fits binary32 (getD (g .documents .values) k nan))) (o : Outputs) where
         abbrev wrote : Verdict
         wrote = laidVerdict (g .dimension) (g .summarization) (g .documents) (take (length (g .ids)) (s1 .order)) (take count (s1 .blocks)) (counting (s1 .keys) (s1 .counts) (s1 .sums) (s1 .starts)
@@ -148,8 +143,10 @@ module _ (g : Input) (s : Scratches) where
         written-so r o' order' blocks' counts' starts' keys' sums' p eo lo eb lb =
             (λ j. leaves (p j .answer) (lent (p j .output) (scratches ((eo ∙ ap (λ n. replicate n 0) lo) j) ((eb ∙ ap (λ n. replicate n 0) lb) j) (facts .2 j .sorted) (facts .2 j .known)
             (facts .2 j .taken)
-            ((ap (λ l. l .places) p ∙ ap (λ s. zeros (s .counts)) (facts .2) ∙ twice (s .counts)) j) ((ap (λ l. l .counts) p ∙ ap (λ s. zeros (s .starts)) (facts .2) ∙ twice (s .starts)) j)
+            ((ap (λ l. l .places) p ∙ ap (λ s. zeros (s .counts)) (facts .2) ∙ zeros-twice (s .counts)) j)
+            ((ap (λ l. l .entryCounts) p ∙ ap (λ s. zeros (s .starts)) (facts .2) ∙ zeros-twice (s .starts)) j)
             (facts .2 j .slots) (facts .2 j .weights)
-            ((ap (λ l. l .maxima) p ∙ ap (λ s. floatZeros (s .sums)) (facts .2) ∙ float-twice (s .sums)) j) ((ap (λ l. l .keys) p ∙ ap (λ s. zeros (s .keys)) (facts .2) ∙ twice (s .keys)) j))))
+            ((ap (λ l. l .maxima) p ∙ ap (λ s. floatZeros (s .sums)) (facts .2) ∙ float-zeros-twice (s .sums)) j)
+            ((ap (λ l. l .keys) p ∙ ap (λ s. zeros (s .keys)) (facts .2) ∙ zeros-twice (s .keys)) j))))
             ∙ (λ j. leaves (answerBy (wrote-is j) (result-is j)) (lent (outputBy (wrote-is j) (result-is j) o) (clearedScratch s)))
             ∙ sym (built-by (verdictOf g (lent o s)) o refl)

@@ -7,7 +7,7 @@ use Rattle.clustering.specs.Clustered.{clusteredIn}
 use Rattle.clustering.specs.Laws.Clustered.{steps-are}
 use mathlib.Core.Path.{sym, ap, _∙_}
 use native.Mathlib.Omega.{arith}
-use lib.ListN.{length, replicate}
+use lib.ListN.{replicate}
 use borrow.Author.Needs.{needs}
 use Rattle.clustering.proofs.cluster.Statement.{statement}
 use Rattle.clustering.proofs.cluster.Tie as tie

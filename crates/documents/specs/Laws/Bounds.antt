@@ -1,5 +1,4 @@
 -- Terms that hold: each value is bounded, each component has one value at most, and a dot product of two such lists is a number.
---
 use Prim.Native.Nat.{ℕ, _*_, _^_, _≤_, _<_}
 use native.Mathlib.Omega.{arith}
 use mathlib.Core.Path.{_≡_, refl, sym, ap, _∙_, subst}
@@ -7,32 +6,28 @@ use mathlib.Core.Bool.{Bool, true, false, not, cond}
 use mathlib.Core.List.{List, [], _∷_, map}
 use lib.ListN.{length}
 use lib.Dec.{T, ltb, eqb}
-use lib.Ieee.{binary32, mul, isNan}
+use lib.Ieee.{Float, binary32, mul, isNan}
 use lib.Ieee.Scale.{finite}
 use borrow.Author.Tests.{ltb-true, eqb-true, ne-eqb}
-use Rattle.float32.specs.Bound.{inBound, Bounded}
-use Rattle.float32.specs.Laws.BoundLaws.{in-bound-bounded}
+use Rattle.float32.specs.Bound.{inBound}
 use Rattle.float32.specs.Sums.{Within}
 use Rattle.float32.specs.Laws.Sums.{product-within}
 use Rattle.float32.specs.Laws.LongSums.{score-no-nan, score-finite}
 use Rattle.sequences.specs.Lists.{EachOf, every, withKey, strictlyRise}
-use Rattle.sequences.specs.Laws.Lists.{both}
+use Rattle.sequences.specs.Laws.Lists.{both, every-each}
 use Rattle.sequences.specs.Laws.Each.{each-those, each-append}
-use Rattle.documents.specs.Documents.{Term, valuesAt, products, dot}
-use Rattle.documents.specs.Checks.{termsHold}
-use Rattle.documents.specs.Laws.TermKeys.{Held}
-
-abbrev pub BoundedTerm : Term → Type 0
-BoundedTerm t = Bounded (t .value)
+use Rattle.documents.specs.Documents.{Term, paired, valuesAt, products, dot}
+use Rattle.documents.specs.Checks.{termsHold, slicesHold}
 
 -- ---- values
-pub holds-bounded : (ts : List Term) → EachOf Held ts → termsHold ts ≡ true → EachOf BoundedTerm ts
-unfolding termsHold
-holds-bounded ts H h = go ts H (both (strictlyRise (map (λ t. t .component) ts)) (every (λ t. inBound (t .value)) ts) h .1)
-  where
-    go : (ts : List Term) → EachOf Held ts → every (λ t. inBound (t .value)) ts ≡ true → EachOf BoundedTerm ts
-    go [] H h = tt
-    go (t ∷ ts) H h = let b = both (inBound (t .value)) (every (λ t. inBound (t .value)) ts) h in (in-bound-bounded (t .value) (H .0 .fit) (b .0), go ts (H .1) (b .1))
+pub slices-bound : (cs : List ℕ) (vs : List Float) → slicesHold cs vs ≡ true → every (λ t. inBound (t .value)) (paired cs vs) ≡ true
+unfolding slicesHold termsHold
+slices-bound cs vs h =
+    both (strictlyRise (map (λ t. t .component) (paired cs vs))) (every (λ t. inBound (t .value)) (paired cs vs))
+    (both (eqb (length cs) (length vs)) (termsHold (paired cs vs)) h .1) .1
+
+abbrev AllBounded : List Term → Type 0
+AllBounded ts = EachOf (λ t. inBound (t .value) ≡ true) ts
 
 -- ---- one value at most for each component
 none-at : (c : ℕ) (ts : List Term) → strictlyRise (c ∷ map (λ t. t .component) ts) ≡ true → withKey (λ t. t .component) c ts ≡ []
@@ -70,22 +65,22 @@ one-value c (t ∷ ts) h = go (eqb (t .component) c) refl (one-value c ts (rest 
     go false e i = i
 
 -- ---- the dot product
-products-within : (query ts : List Term) → EachOf BoundedTerm query → EachOf BoundedTerm ts → EachOf (Within (1 * 2 ^ 213)) (products query ts)
+products-within : (query ts : List Term) → AllBounded query → AllBounded ts → EachOf (Within (1 * 2 ^ 213)) (products query ts)
 products-within [] ts Q H = tt
 products-within (q ∷ query) ts Q H =
     each-append (Within (1 * 2 ^ 213)) (map (λ v. mul binary32 v (q .value)) (valuesAt (q .component) ts)) (products query ts)
-    (times (withKey (λ t. t .component) (q .component) ts) (each-those BoundedTerm (λ t. eqb (t .component) (q .component)) ts H))
+    (times (withKey (λ t. t .component) (q .component) ts) (each-those (λ t. inBound (t .value) ≡ true) (λ t. eqb (t .component) (q .component)) ts H))
     (products-within query ts (Q .1) H)
   where
-    times : (us : List Term) → EachOf BoundedTerm us → EachOf (Within (1 * 2 ^ 213)) (map (λ v. mul binary32 v (q .value)) (map (λ t. t .value) us))
+    times : (us : List Term) → AllBounded us → EachOf (Within (1 * 2 ^ 213)) (map (λ v. mul binary32 v (q .value)) (map (λ t. t .value) us))
     times [] e = tt
     times (u ∷ us) e = (product-within (u .value) (q .value) (e .0) (Q .0), times us (e .1))
 
 -- a score is never a NaN, nor an infinity, whatever the number of terms
-pub dot-number : (query ts : List Term) → EachOf BoundedTerm query → EachOf BoundedTerm ts → T (not (isNan (dot query ts)))
+pub dot-number : (query ts : List Term) → every (λ t. inBound (t .value)) query ≡ true → every (λ t. inBound (t .value)) ts ≡ true → T (not (isNan (dot query ts)))
 unfolding dot
-dot-number query ts Q H = score-no-nan (products query ts) (products-within query ts Q H)
+dot-number query ts q t = score-no-nan (products query ts) (products-within query ts (every-each (λ t. inBound (t .value)) query q) (every-each (λ t. inBound (t .value)) ts t))
 
-pub dot-finite : (query ts : List Term) → EachOf BoundedTerm query → EachOf BoundedTerm ts → T (finite (dot query ts))
+pub dot-finite : (query ts : List Term) → every (λ t. inBound (t .value)) query ≡ true → every (λ t. inBound (t .value)) ts ≡ true → T (finite (dot query ts))
 unfolding dot
-dot-finite query ts Q H = score-finite (products query ts) (products-within query ts Q H)
+dot-finite query ts q t = score-finite (products query ts) (products-within query ts (every-each (λ t. inBound (t .value)) query q) (every-each (λ t. inBound (t .value)) ts t))

@@ -3,12 +3,12 @@ use mathlib.Core.Path.{_≡_, refl, sym, ap, _∙_}
 use Prim.Native.Nat.{ℕ, zero, suc, _+_, _*_, _^_, _≤_, _<_}
 use native.Mathlib.Nat.{mul-one, mul-le-mul-right, le-of-mul-le-mul-right}
 use native.Mathlib.Omega.{arith}
-use mathlib.Core.Bool.{true, false, _&&_, _||_}
+use mathlib.Core.Bool.{true, false, _&&_, _||_, and-true}
 use lib.Dec.{T, leb, ltb, eqb, leb→le, le→leb, lt→ltb}
 use lib.Ieee.{Float, nan, inf, fin, binary32, up, down, le, neg, ofBits, fits}
 use lib.Ieee.Fits.{down-pos, and-l, and-r}
 use lib.Ieee.Scale.{finite}
-use Rattle.sequences.specs.Laws.Lists.{and-true, eqb-swap}
+use Rattle.sequences.specs.Laws.Lists.{eqb-swap}
 use Rattle.float32.specs.Laws.Tests.{is-true, yes, same-test, or-left, and-both, le-test}
 use Rattle.float32.specs.Units.{one, mag}
 use Rattle.float32.specs.Laws.Units.{one-pos, value-of}

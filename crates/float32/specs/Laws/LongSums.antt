@@ -3,7 +3,7 @@ use mathlib.Core.Path.{_≡_, refl, sym, subst}
 use Prim.Native.Nat.{ℕ, _+_, _-_, _*_, _^_, _≤_, _<_, zero-le}
 use native.Mathlib.Nat.{le-trans, le-of-eq, lt-of-le-of-lt, mul-le-mul-right, mul-one}
 use native.Mathlib.Omega.{arith}
-use mathlib.Core.Bool.{Bool, true, false, not, _&&_, cond, Bool·beq}
+use mathlib.Core.Bool.{Bool, false, not, _&&_, Bool·beq}
 use mathlib.Core.List.{List, [], _∷_, foldl}
 use lib.IntN.{pos}
 use lib.Dec.{T, ltb, lit<, lit≤}
@@ -16,7 +16,7 @@ use Rattle.float32.specs.Units.{one}
 use Rattle.float32.specs.Laws.Units.{one-pos}
 use Rattle.float32.specs.Laws.RoundedUnits.{round-value, rounded-mono}
 use Rattle.float32.specs.Sums.{Within}
-use Rattle.float32.specs.Laws.Sums.{within-finite, within-no-nan}
+use Rattle.float32.specs.Laws.Sums.{within-finite, within-no-nan, wider, pick}
 
 -- terms of at most 2 ^ j units: one more than 2 ^ 25 of them rounds to 2 ^ 25, which is below the infinities
 pub record Holds (j : ℕ) : Type 0 where
@@ -35,10 +35,6 @@ module _ (j : ℕ) (holds : Holds j) where
   sum-back s t a b h = pick (Bool·beq s t) (round-back s (a + b) h) (pick (ltb a b) (round-back t (b - a) (less ((2 ^ 25 + 1) * 2 ^ j) h)) (round-back (s && ltb b a) (a - b)
       (less' ((2 ^ 25 + 1) * 2 ^ j) h)))
     where
-      pick : {b : ℕ} {x y : Float} (k : Bool) → Within b x → Within b y → Within b (cond k x y)
-      pick true u v = u
-      pick false u v = v
-
       less : (b' : ℕ) → a + b ≤ b' → b - a ≤ b'
       less b' h = omega arith
 
@@ -74,6 +70,9 @@ products-hold = record { back = lit≤ tt; room = lit< tt }
 pub read-products-hold : Holds 222
 unfolding one size
 read-products-hold = record { back = lit≤ tt; room = lit< tt }
+
+pub summary-score-within : (ps : List Float) → EachOf (Within (1 * 2 ^ 222)) ps → Within (1 * 2 ^ 247) (foldl (add binary32) (fin false 0 (pos 0)) ps)
+summary-score-within ps e = wider (2 ^ 25 * 2 ^ 222) (1 * 2 ^ 247) (foldl (add binary32) (fin false 0 (pos 0)) ps) (lit≤ tt) (long-sum-within 222 read-products-hold ps e)
 
 pub score-finite : (ps : List Float) → EachOf (Within (1 * 2 ^ 213)) ps → T (finite (foldl (add binary32) (fin false 0 (pos 0)) ps))
 score-finite ps e = within-finite (2 ^ 25 * 2 ^ 213) (foldl (add binary32) (fin false 0 (pos 0)) ps) (long-sum-within 213 products-hold ps e)

@@ -1,23 +1,21 @@
 -- Laws of Sums: results that stay within a bound are finite and no NaN, and rounding never passes a number that has at most 24 digits.
-use mathlib.Core.Path.{_≡_, refl, sym, subst}
-use Prim.Native.Nat.{ℕ, suc, _+_, _-_, _*_, _^_, _≤_, _<_, zero-le}
-use native.Mathlib.Nat.{le-trans, le-of-eq, lt-of-le-of-lt, lt-of-lt-of-le, mul-lt-mul-of-pos-right, mul-le-mul, mul-le-mul-left, mul-le-mul-right, mul-pos, zero-add}
+use mathlib.Core.Path.{_≡_, refl, sym, ap, _∙_, subst}
+use Prim.Native.Nat.{ℕ, _+_, _-_, _*_, _^_, _≤_, _<_}
+use native.Mathlib.Nat.{le-trans, le-of-eq, lt-of-le-of-lt, mul-le-mul, mul-le-mul-left, mul-le-mul-right, mul-pos}
 use native.Mathlib.Omega.{arith}
-use mathlib.Core.Bool.{Bool, true, false, not, _&&_, cond, Bool·beq}
-use mathlib.Core.List.{List, [], _∷_, foldl}
-use lib.ListN.{length}
-use lib.Pow.{pow-pos}
+use mathlib.Core.Bool.{Bool, true, false, not, _&&_, cond, Bool·beq, true≢false}
 use lib.IntN.{pos}
-use lib.Dec.{T, leb, ltb, lit<, lit≤}
-use lib.Ieee.{Float, nan, inf, fin, binary32, round, sum, add, sub, mul, ofInt, isNan, unlike}
+use lib.Dec.{T, ltb, lit<, lit≤}
+use lib.Ieee.{Float, nan, inf, fin, binary32, round, sum, add, sub, mul, ofInt, isNan, unlike, up, down}
+use lib.Ieee.Fits.{down-pos}
 use lib.Ieee.Scale.{finite}
+use borrow.Author.Tests.{leb-true}
 use Rattle.float32.specs.Laws.Rounded.{rounded}
 use Rattle.float32.specs.Laws.Operations.{mul-by, add-by, sub-by, int-value}
 use Rattle.float32.specs.Units.{one, negative, mag}
 use Rattle.float32.specs.Laws.Units.{one-pos, value-of}
 use Rattle.float32.specs.Laws.RoundedUnits.{round-value, rounded-le}
-use Rattle.float32.specs.Bound.{Bounded}
-use Rattle.sequences.specs.Lists.{EachOf}
+use Rattle.float32.specs.Bound.{inBound, Bounded}
 use Rattle.float32.specs.Sums.{Within}
 
 pub within-finite : (b : ℕ) (x : Float) → Within b x → T (finite x)
@@ -37,6 +35,11 @@ within-no-nan b x w = finite-no-nan x (within-finite b x w)
 pub wider : (a b : ℕ) (x : Float) → a ≤ b → Within a x → Within b x
 wider a b x h w = record { sign = w .sign; size = w .size; value = w .value; small = le-trans (w .small) h }
 
+-- whichever of two a test picks
+pub pick : {b : ℕ} {x y : Float} (k : Bool) → Within b x → Within b y → Within b (cond k x y)
+pick true u v = u
+pick false u v = v
+
 -- ---- one operation. The bound on its result is q * 2 ^ j units, q of at most 24 digits, below the infinities
 abbrev pub Room : ℕ → ℕ → Type 0
 Room q j = (q < 2 ^ 24) × (q * 2 ^ j < one * 2 ^ 128)
@@ -50,10 +53,6 @@ pub sum-within : (s t : Bool) (a b q j : ℕ) → Room q j → a + b ≤ q * 2 ^
 unfolding sum
 sum-within s t a b q j r h = pick (Bool·beq s t) (at s (a + b) h) (pick (ltb a b) (at t (b - a) (less (q * 2 ^ j) h)) (at (s && ltb b a) (a - b) (less' (q * 2 ^ j) h)))
   where
-    pick : {b : ℕ} {x y : Float} (k : Bool) → Within b x → Within b y → Within b (cond k x y)
-    pick true u v = u
-    pick false u v = v
-
     at : (s : Bool) (w : ℕ) → w ≤ q * 2 ^ j → Within (q * 2 ^ j) (round binary32 s w one)
     at s w k = round-within s w one q j one-pos r (mul-le-mul-right one k)
 
@@ -106,10 +105,27 @@ at-32 = refl
 pub bounded-within : (x : Float) → Bounded x → Within (1 * 2 ^ 181) x
 bounded-within x X = record { sign = negative x; size = mag x; value = value-of x (X .fit) (X .fin); small = le-trans (X .small) (le-of-eq at-32) }
 
--- the product of two bounded values is at most 2 ^ 64
-pub product-within : (x y : Float) → Bounded x → Bounded y → Within (1 * 2 ^ 213) (mul binary32 x y)
+-- the product of two values in bound is at most 2 ^ 64
+units : 2 ^ 32 * 2 ^ 32 * one ≡ 1 * 2 ^ 213
 unfolding one
-product-within x y X Y = mul-within (1 * 2 ^ 181) (1 * 2 ^ 181) 1 213 x y (power-room 213 tt) (lit≤ tt) (bounded-within x X) (bounded-within y Y)
+units = refl
+
+pub product-within : (x y : Float) → inBound x ≡ true → inBound y ≡ true → Within (1 * 2 ^ 213) (mul binary32 x y)
+unfolding inBound
+product-within nan y h k = absurd (true≢false (sym h))
+product-within (inf s) y h k = absurd (true≢false (sym h))
+product-within (fin s m e) nan h k = absurd (true≢false (sym k))
+product-within (fin s m e) (inf t) h k = absurd (true≢false (sym k))
+product-within (fin s m e) (fin t n d) h k =
+    subst (Within (1 * 2 ^ 213)) (sym (mul-by binary32 (fin s m e) (fin t n d) s t (m * up e) (down e) (n * up d) (down d) (down-pos e) (down-pos d) (refl, refl) (refl, refl)))
+    (round-within (unlike s t) (m * up e * (n * up d)) (down e * down d) 1 213 (mul-pos (down-pos e) (down-pos d)) (power-room 213 tt)
+    (within-room (m * up e) (n * up d) (down e) (down d) (leb-true (m * up e) (2 ^ 32 * down e) h) (leb-true (n * up d) (2 ^ 32 * down d) k)))
+  where
+    regroup : (p o c d : ℕ) → p * c * (p * d) * o ≡ p * p * o * (c * d)
+    regroup p o c d = omega arith
+
+    within-room : (a b c d : ℕ) → a ≤ 2 ^ 32 * c → b ≤ 2 ^ 32 * d → a * b * one ≤ 1 * 2 ^ 213 * (c * d)
+    within-room a b c d h k = le-trans (mul-le-mul-right one (mul-le-mul h k)) (le-of-eq (regroup (2 ^ 32) one c d ∙ ap (λ z. z * (c * d)) units))
 
 -- what is read back from a byte, with a stored minimum and step as document 01 allows them, is at most 2 ^ 41, and its product with a
 -- bounded value at most 2 ^ 73
@@ -122,44 +138,3 @@ read-back-within l s c L S h =
 pub read-product-within : (x y : Float) → Within (1 * 2 ^ 190) x → Bounded y → Within (1 * 2 ^ 222) (mul binary32 x y)
 unfolding one
 read-product-within x y X Y = mul-within (1 * 2 ^ 190) (1 * 2 ^ 181) 1 222 x y (power-room 222 tt) (lit≤ tt) X (bounded-within y Y)
-
--- ---- sums from +0 on, each addition rounded once
-sum-on : (j n : ℕ) (acc : Float) (ps : List Float) → Room (n + length ps) j → Within (n * 2 ^ j) acc → EachOf (Within (1 * 2 ^ j)) ps → Within ((n + length ps) * 2 ^ j) (foldl (add binary32) acc ps)
-sum-on j n acc [] r w e = wider (n * 2 ^ j) ((n + 0) * 2 ^ j) acc (mul-le-mul-right (2 ^ j) (omega arith)) w
-sum-on j n acc (p ∷ ps) r w e =
-    subst (λ k. Within (k * 2 ^ j) (foldl (add binary32) (add binary32 acc p) ps)) (sym (suc-right n (length ps)))
-    (sum-on j (suc n) (add binary32 acc p) ps (subst (λ k. Room k j) (suc-right n (length ps)) r) (add-within (n * 2 ^ j) (1 * 2 ^ j) (suc n) j acc p (less n (length ps) r) (one-more n (2 ^ j)) w
-    (e .0)) (e .1))
-  where
-    suc-right : (n l : ℕ) → n + suc l ≡ suc n + l
-    suc-right n l = omega arith
-
-    one-more : (n u : ℕ) → n * u + 1 * u ≤ suc n * u
-    one-more n u = omega arith
-
-    less : (n l : ℕ) → Room (n + suc l) j → Room (suc n) j
-    less n l r = (omega arith, lt-of-le-of-lt (mul-le-mul-right (2 ^ j) (more n l)) (r .1))
-      where
-        more : (n l : ℕ) → suc n ≤ n + suc l
-        more n l = omega arith
-
--- n terms of at most 2 ^ j units each add up to at most n * 2 ^ j units
-pub sum-of-within : (j : ℕ) (ps : List Float) → Room (length ps) j → EachOf (Within (1 * 2 ^ j)) ps → Within (length ps * 2 ^ j) (foldl (add binary32) (fin false 0 (pos 0)) ps)
-sum-of-within j ps r e =
-    subst (λ n. Within (n * 2 ^ j) (foldl (add binary32) (fin false 0 (pos 0)) ps)) (zero-add (length ps))
-    (sum-on j 0 (fin false 0 (pos 0)) ps (subst (λ n. Room n j) (sym (zero-add (length ps))) r) (record { sign = false; size = 0; value = (refl, nil one); small = zero-le }) e)
-  where
-    nil : (o : ℕ) → 0 * 2 ^ 0 * o ≡ 0 * 1
-    nil o = omega arith
-
-room-for : (n j : ℕ) → T (leb (2 ^ 24 * 2 ^ j) (2 ^ 277)) → n < 2 ^ 24 → Room n j
-unfolding one
-room-for n j t h = (h, lt-of-lt-of-le (mul-lt-mul-of-pos-right h (pow-pos j)) (lit≤ t))
-
--- a document's score: products of bounded values, fewer than 2 ^ 24 of them; after n terms at most n * 2 ^ 64
-pub score-within : (ps : List Float) → length ps < 2 ^ 24 → EachOf (Within (1 * 2 ^ 213)) ps → Within (length ps * 2 ^ 213) (foldl (add binary32) (fin false 0 (pos 0)) ps)
-score-within ps h e = sum-of-within 213 ps (room-for (length ps) 213 tt h) e
-
--- a summary's score: products of values read back and bounded values; after n terms at most n * 2 ^ 73
-pub summary-score-within : (ps : List Float) → length ps < 2 ^ 24 → EachOf (Within (1 * 2 ^ 222)) ps → Within (length ps * 2 ^ 222) (foldl (add binary32) (fin false 0 (pos 0)) ps)
-summary-score-within ps h e = sum-of-within 222 ps (room-for (length ps) 222 tt h) e

@@ -6,7 +6,7 @@ use mathlib.Core.Path.{_≡_, ap, _∙_}
 use mathlib.Core.Logic.{_⊎_, inl, inr}
 use mathlib.Core.Bool.{Bool, true, false, not, _&&_, _||_}
 use lib.Dec.{T, leb, ltb, eqb}
-use borrow.Author.Tests.{ltb-true, ltb-false, eqb-true, eqb-false, lt-ltb, le-ltb, eq-eqb, ne-eqb, leb-true, leb-false}
+use borrow.Author.Tests.{ltb-true, ltb-false, eqb-true, eqb-false, lt-ltb, le-ltb, eq-eqb, ne-eqb, leb-true, leb-false, not-true}
 use lib.Ieee.{binary32, fits}
 use Rattle.sequences.specs.Laws.Lists.{both, decide}
 use Rattle.float32.specs.Order.{atMost}
@@ -14,7 +14,6 @@ use Rattle.float32.specs.Key.{keyOf}
 use Rattle.float32.specs.Laws.KeyLaws.{key-order, key-inj}
 use Rattle.kept_list.specs.declared.Scored.{Scored}
 use Rattle.kept_list.specs.Order.{Order}
-use Rattle.kept_list.specs.Laws.Order.{is-not}
 use Rattle.kept_list.specs.Keep.{level}
 use Rattle.kept_list.specs.Entry.{scored, precedes, better, sameScore}
 
@@ -92,5 +91,5 @@ pub level-same : (e f : Scored) → T (fits binary32 (e .score)) → T (fits bin
 unfolding better
 level-same e f p q h =
     let s = both (not (better e f)) (not (better f e)) h in
-    let r = level-at (keyOf (e .score)) (e .packed) (keyOf (f .score)) (f .packed) (is-not (better e f) (s .0)) (is-not (better f e) (s .1)) in
+    let r = level-at (keyOf (e .score)) (e .packed) (keyOf (f .score)) (f .packed) (not-true (better e f) (s .0)) (not-true (better f e) (s .1)) in
     ap (λ n. scored n (e .score)) (r .1) ∙ ap (scored (f .packed)) (key-inj (e .score) (f .score) p q (r .0))

@@ -7,10 +7,10 @@ use mathlib.Core.Logic.{_⊎_, inl, inr}
 use mathlib.Core.List.{List, [], _∷_, _++_, List·Memᴰ, List·Memᴰ·head, List·Memᴰ·tail, List·Memᴰ·not-nil, List·Memᴰ·cases-cons, List·Memᴰ·append-cases, Memᴰ·append-right, head-eq-of-cons-eq}
 use mathlib.Core.List.{tail-eq-of-cons-eq}
 use lib.ListN.{length, take, drop, length-take, take-append-drop}
+use borrow.Author.Tests.{not-true}
 use Rattle.sequences.specs.Lists.{every, EachOf, insertBy, sortedBy}
 use Rattle.sequences.specs.Laws.Lists.{both, decide}
 use Rattle.kept_list.specs.Keep.{beats, insertAfter, keep, noLater, kBest, inOrder}
-use Rattle.kept_list.specs.Laws.Order.{is-not}
 use Rattle.kept_list.specs.Order.{Order}
 use Rattle.kept_list.specs.Laws.Pushing.{keep-replaces}
 use Rattle.kept_list.specs.Laws.Best.{sorted-sort}
@@ -47,7 +47,7 @@ module _ {A : Type 0} (better : A → A → Bool) (O : Order better) where
   behind d [] b m h = tt
   behind d (f ∷ a) b m h =
       let s = both (every (noLater better f) (a ++ b)) (inOrder better (a ++ b)) h in
-      (is-not (better d f) (every-of (noLater better f) d (a ++ b) (Memᴰ·append-right a m) (s .0)), behind d a b m (s .1))
+      (not-true (better d f) (every-of (noLater better f) d (a ++ b) (Memᴰ·append-right a m) (s .0)), behind d a b m (s .1))
 
   pub left-out : (k : ℕ) (es : List A) (d : A) → List·Memᴰ d es → (List·Memᴰ d (kBest better k es) → ⊥) → (length (kBest better k es) ≡ k) × EachOf (λ f. better d f ≡ false) (kBest better k es)
   left-out k es d m out =

@@ -5,10 +5,10 @@ use mathlib.Core.Path.{_≡_, refl, _∙_}
 use mathlib.Core.Logic.{inl, inr}
 use mathlib.Core.List.{List, [], _∷_, _++_}
 use lib.ListN.{take}
+use borrow.Author.Tests.{not-true}
 use Rattle.sequences.specs.Lists.{every, those}
 use Rattle.sequences.specs.Laws.Lists.{both, decide}
 use Rattle.kept_list.specs.Keep.{beats, insertAfter, keep, noLater, inOrder}
-use Rattle.kept_list.specs.Laws.Order.{is-not}
 use Rattle.kept_list.specs.Order.{Order}
 use Rattle.kept_list.specs.Laws.Pushing.{put, putAll}
 
@@ -26,7 +26,7 @@ module _ {A : Type 0} (better : A → A → Bool) (O : Order better) where
       let r = beats-rest e f gs p (s .1) in
       elim (decide (better e g)) [
         | inl y ↦ cc
-        | inr n ↦ cc (O .between e g f n (is-not (better g f) (s .0)))
+        | inr n ↦ cc (O .between e g f n (not-true (better g f) (s .0)))
       ]
 
   pub insert-is-put : (e : A) (l : List A) → inOrder better l ≡ true → insertAfter better e l ≡ put better e l
@@ -75,7 +75,7 @@ module _ {A : Type 0} (better : A → A → Bool) (O : Order better) where
   none-weak e f [] p h = refl
   none-weak e f (g ∷ gs) p h =
       let s = both (not (better g f)) (every (noLater better f) gs) h in
-      let b = O .between g f e (is-not (better g f) (s .0)) p in
+      let b = O .between g f e (not-true (better g f) (s .0)) p in
       let i = none-weak e f gs p (s .1) in
       cc
 

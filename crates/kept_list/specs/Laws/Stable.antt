@@ -3,10 +3,10 @@ use mathlib.Core.Bool.{Bool, true, false, not, cond}
 use mathlib.Core.Path.{_≡_, refl, sym, ap, _∙_}
 use mathlib.Core.Logic.{inl, inr}
 use mathlib.Core.List.{List, [], _∷_, nil≢cons, head-eq-of-cons-eq, tail-eq-of-cons-eq}
+use borrow.Author.Tests.{not-true}
 use Rattle.sequences.specs.Lists.{every, those, insertBy, sortedBy}
 use Rattle.sequences.specs.Laws.Lists.{both, decide}
 use Rattle.kept_list.specs.Keep.{noLater, inOrder, level}
-use Rattle.kept_list.specs.Laws.Order.{is-not}
 use Rattle.kept_list.specs.Order.{Order}
 
 module _ {A : Type 0} (better : A → A → Bool) (O : Order better) where
@@ -34,7 +34,7 @@ module _ {A : Type 0} (better : A → A → Bool) (O : Order better) where
           let s = both (not (better x f)) (not (better f x)) xf in
           elim (decide (better x e)) [
             | inl y ↦ cc
-            | inr n ↦ cc (O .between f x e (is-not (better f x) (s .1)) n)
+            | inr n ↦ cc (O .between f x e (not-true (better f x) (s .1)) n)
           ]
 
   -- those of each level stay as they came
@@ -50,7 +50,7 @@ module _ {A : Type 0} (better : A → A → Bool) (O : Order better) where
       let i = none-level a b gs p (s .1) in
       elim (decide (better a g)) [
         | inl y ↦ rw (y, i)
-        | inr n ↦ cc (O .between a g b n (is-not (better g b) (s .0)))
+        | inr n ↦ cc (O .between a g b n (not-true (better g b) (s .0)))
       ]
 
   first-level : (a b : A) (l m : List A) → inOrder better (b ∷ m) ≡ true → those (level better a) (a ∷ l) ≡ those (level better a) (b ∷ m) → better a b ≡ false

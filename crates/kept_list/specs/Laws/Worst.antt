@@ -8,7 +8,7 @@ use mathlib.Core.List.{List, [], _∷_, _++_}
 use lib.ListN.{length, take, length-take, length-append}
 use lib.Seq.{take-at}
 use lib.Dec.{ltb}
-use borrow.Author.Tests.{le-leb, ltb-false}
+use borrow.Author.Tests.{le-leb, ltb-false, not-true}
 use Rattle.sequences.specs.Lists.{EachOf, every, lastOr, sortedBy}
 use Rattle.sequences.specs.Laws.Lists.{both, decide, or-left, permuted-length}
 use Rattle.sequences.specs.Laws.Sorted.{sort-permutes}
@@ -18,7 +18,6 @@ use Rattle.float32.specs.Key.{keyOf}
 use Rattle.float32.specs.Laws.KeyLaws.{key-order}
 use Rattle.kept_list.specs.declared.Scored.{Scored}
 use Rattle.kept_list.specs.Keep.{beats, insertAfter, keep, keepAll, noLater, kBest, inOrder}
-use Rattle.kept_list.specs.Laws.Order.{is-not}
 use Rattle.kept_list.specs.Order.{Order}
 use Rattle.kept_list.specs.Laws.Pushing.{length-keep}
 use Rattle.kept_list.specs.Laws.Best.{k-best, sorted-kBest, length-kBest, kBest-left}
@@ -50,7 +49,7 @@ module _ {A : Type 0} (better : A → A → Bool) (O : Order better) where
   last-worst e [] h = (not-itself e, tt)
   last-worst e (f ∷ es) h =
       let s = both (every (noLater better e) (f ∷ es)) (inOrder better (f ∷ es)) h in
-      (is-not (better (lastOr f es) e) (every-last (noLater better e) f es (s .0)), last-worst f es (s .1))
+      (not-true (better (lastOr f es) e) (every-last (noLater better e) f es (s .0)), last-worst f es (s .1))
 
   -- ---- pushes onto k kept entries: who was better than none of them is better than none afterwards
   none-insert : (w p : A) (es : List A) → better w p ≡ false → BetterThanNone w es → BetterThanNone w (insertAfter better p es)

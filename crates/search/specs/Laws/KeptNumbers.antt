@@ -23,13 +23,12 @@ use Rattle.kept_list.specs.declared.Scored.{Scored}
 use Rattle.kept_list.specs.Entry.{better, scored}
 use Rattle.kept_list.specs.Keep.{keep, keepAll}
 use Rattle.kept_list.specs.Lent.{entries}
-use Rattle.kept_list.specs.Laws.Laid.{entries-written}
 use Rattle.kept_list.specs.Push.{isNumber, wellKept}
 use Rattle.kept_list.specs.Laws.Told.{numbers-kept}
 use Rattle.kept_list.specs.Laws.WellKept.{well-kept}
 use Rattle.search_postings.specs.declared.RangeReading.{RangeReading}
 use Rattle.search_postings.specs.declared.RangeReading.the-variants.{ReachesPast, Breaks, Score}
-use Rattle.search_probe.specs.Probing.{Given, State, passed, stopped, found, outcome, ofReading, packedAt, startAt, Reached, goesOn, stopsAt, left}
+use Rattle.search_probe.specs.Probing.{Given, State, passed, stopped, found, outcome, ofReading, packedAt, startAt}
 use Rattle.search_probe.specs.Probed.{Terms, Lends, readIn, bytesOf, laid, opened}
 use Rattle.search.specs.Searched.{Question, givenFor, swept, tests}
 use Rattle.search.specs.Trace.{Event, at, turns, entriesOf, eventsOf}
@@ -38,6 +37,7 @@ use Rattle.search.specs.Laws.Once.{AllRight, all-right}
 use Rattle.search.specs.Dots.{queryTerms, inRange, rangeTerms}
 use Rattle.search.specs.Laws.Dots.{score-is-dot}
 use Rattle.search.specs.Laws.Scores.{page-score-number}
+use Rattle.search_probe.specs.Laws.Laid.{laid-kept}
 
 pub both-true : (a b : Bool) → a ≡ true → b ≡ true → (a && b) ≡ true
 both-true true b h k = k
@@ -89,11 +89,7 @@ module _ (q : Question) (l : Lends) (b : Bool) (accepted : firstOf (tests q l b)
   kept-numbers blocks =
       let g = givenFor q in
       let s = opened (q .terms) l in
-      ap (every isNumber) (laid-kept (swept q blocks l) ∙ ap (λ (t : State). t .kept) (sweep-told g blocks s))
+      ap (every isNumber) (laid-kept (q .terms) l (swept q blocks l) ∙ ap (λ (t : State). t .kept) (sweep-told g blocks s))
       ∙ all-kept (q .k) (entries (l .kept)) (entriesOf (eventsOf (turns g blocks s))) (well-kept (q .k) (l .kept) (not-false (wellKept (q .k) (l .kept)) (faults .1 .1 .1 .1 .0)) .numbers)
       (story-numbers g (bytesOf (q .terms) (l .visits)) (eventsOf (turns g blocks s)) (all-right g blocks s) (range-number (q .terms) (not-false (slicesHold (q .terms .queryComponents)
       (q .terms .queryValues)) (faults .1 .0))))
-    where
-      laid-kept : (r : Reached) → entries ((laid (q .terms) l r) .lent .kept) ≡ (left r) .kept
-      laid-kept (goesOn s) = entries-written (s .kept) (l .kept)
-      laid-kept (stopsAt r i s) = entries-written (s .kept) (l .kept)

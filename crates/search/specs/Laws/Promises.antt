@@ -1,6 +1,6 @@
 -- Laws of Promises: the skip test in plain words, that every accepted search keeps the promises, and what they say of the memory at exit.
 use Prim.Native.Nat.{ℕ, _+_, _≤_}
-use mathlib.Core.Path.{_≡_, refl, sym, ap, _∙_, subst}
+use mathlib.Core.Path.{_≡_, sym, ap, _∙_, subst}
 use mathlib.Core.Bool.{Bool, true, false, _&&_}
 use mathlib.Core.List.{List, [], _∷_, _++_, map, append-assoc}
 use lib.ListN.{length, getD, take}
@@ -14,7 +14,6 @@ use Rattle.refusal.specs.declared.Verdict.the-variants.{Accepted}
 use Rattle.refusal.specs.First.{firstOf, Faultless}
 use Rattle.refusal.specs.Laws.First.{faultless}
 use Rattle.kept_list.specs.Lent.{entries, places}
-use Rattle.kept_list.specs.Laws.Laid.{entries-written}
 use Rattle.kept_list.specs.Push.{wellKept}
 use Rattle.search_probe.specs.Probed.{Lends, bytesOf, restOf, laid, opened}
 use Rattle.search.specs.Searched.{Question, givenFor, swept, room, tests}
@@ -25,7 +24,7 @@ use Rattle.kept_list.specs.Laws.Best.{k-best, sorted-kBest}
 use Rattle.kept_list.specs.Worst.{noHigher}
 use Rattle.kept_list.specs.Entry.{better}
 use Rattle.kept_list.specs.Laws.Entry.{better-order}
-use Rattle.search_probe.specs.Probing.{Place, packedAt, worst, Given, State, Outcome, passed, stopped, found, outcome, startAt, Reached, goesOn, stopsAt, skips, positions, sweep, left}
+use Rattle.search_probe.specs.Probing.{Place, packedAt, worst, Given, State, Outcome, passed, stopped, found, outcome, startAt, skips, positions, sweep, left}
 use Rattle.search.specs.Trace.{Event, at, Turn, skippedBlock, probedBlock, turns, entriesOf, startsOf, positionOf, eventsOf, marked, after}
 use Rattle.search_probe.specs.Laws.Worst.{worst-lowest, worst-never-falls}
 use Rattle.search.specs.Laws.Told.{entries-append, events-append, sweep-told, marked-events}
@@ -38,6 +37,7 @@ use Rattle.search.specs.Laws.Fated.{Fate, isEvaluated, isSkipped, isPass
 use Rattle.search.specs.Laws.Dots.{Gives, outcome-gives}
 use Rattle.search.specs.Laws.Accepted.{kept-sound, score-ends}
 use Rattle.search.specs.Promises.{Promises, SearchPromises}
+use Rattle.search_probe.specs.Laws.Laid.{laid-kept, laid-visits}
 
 -- ---- the skip test in plain words
 -- skipped exactly when k are kept and score < factor x worst kept score
@@ -148,16 +148,8 @@ module _ (q : Question) (l : Lends) (b : Bool) (accepted : firstOf (tests q l b)
   -- the kept list where it lies at exit: the k best of the entries it began with and of all evaluated
   pub kept-at-exit : (blocks : List ℕ) → entries ((laid (q .terms) l (swept q blocks l)) .lent .kept) ≡ kBest better (q .k) (entries (l .kept)
       ++ entriesOf (eventsOf (search-promises blocks .sweeps .story)))
-  kept-at-exit blocks = laid-kept (swept q blocks l) ∙ search-promises blocks .sweeps .keeps-best
-    where
-      laid-kept : (r : Reached) → entries ((laid (q .terms) l r) .lent .kept) ≡ (left r) .kept
-      laid-kept (goesOn s) = entries-written (s .kept) (l .kept)
-      laid-kept (stopsAt r i s) = entries-written (s .kept) (l .kept)
+  kept-at-exit blocks = laid-kept (q .terms) l (swept q blocks l) ∙ search-promises blocks .sweeps .keeps-best
 
   -- the bytes of the starts as the story leaves them, and those past them as they were
   pub visits-at-exit : (blocks : List ℕ) → (laid (q .terms) l (swept q blocks l)) .lent .visits ≡ (left (swept q blocks l)) .visits ++ restOf (q .terms) (l .visits)
-  visits-at-exit blocks = laid-visits (swept q blocks l)
-    where
-      laid-visits : (r : Reached) → (laid (q .terms) l r) .lent .visits ≡ (left r) .visits ++ restOf (q .terms) (l .visits)
-      laid-visits (goesOn s) = refl
-      laid-visits (stopsAt r i s) = refl
+  visits-at-exit blocks = laid-visits (q .terms) l (swept q blocks l)

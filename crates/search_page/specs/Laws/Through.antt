@@ -1,5 +1,5 @@
 -- For laws on Through: the table of a query.
-use mathlib.Core.List.{List, []}
+use mathlib.Core.List.{List}
 use mathlib.Core.Bool.{false}
 use Prim.Native.Nat.{ℕ}
 use lib.ListN.{replicate}

@@ -1,6 +1,5 @@
 -- For laws on Postings: what a scored posting leaves.
 use Prim.Native.Nat.{ℕ}
-use mathlib.Core.List.{[]}
 use lib.ListN.{set}
 use lib.Ieee.{Float}
 use Rattle.kept_list.specs.Entry.{scored}

@@ -2,15 +2,14 @@
 use Prim.Native.Nat.{ℕ, zero, suc, _+_, _-_, _≤_, _<_}
 use native.Mathlib.Omega.{arith}
 use mathlib.Core.Path.{_≡_, refl, sym, ap, _∙_}
-use mathlib.Core.Bool.{Bool, true, false, not, _||_, cond, true≢false}
+use mathlib.Core.Bool.{Bool, true, false, not, cond, true≢false}
 use mathlib.Core.List.{List, [], _∷_}
 use lib.ListN.{length, getD, set, length-set}
 use lib.Seq.{getD-set-other}
 use lib.Dec.{eqb}
-use borrow.Author.Tests.{eqb-true, eqb-false, eq-eqb}
+use borrow.Author.Tests.{eqb-true, eqb-false, eq-eqb, not-true}
 use Rattle.sequences.specs.Lists.{EachOf, among, from, those}
-use Rattle.sequences.specs.Laws.Lists.{both, neither, eqb-swap}
-use Rattle.kept_list.specs.Laws.Order.{is-not}
+use Rattle.sequences.specs.Laws.Lists.{both, neither, eqb-swap, or-second}
 use Rattle.search.specs.Trace.{distinct, marked}
 use Rattle.search_promises.specs.Counts.{visitedIn}
 
@@ -39,7 +38,7 @@ one-less n (x ∷ xs) d = go (one-less n xs (parts .1)) (eqb x n) refl
 
     go : length xs ≤ suc (length (without n xs)) → (a : Bool) → eqb x n ≡ a → suc (length xs) ≤ suc (length (cond (not a) (x ∷ without n xs) (without n xs)))
     go i true e =
-        let h : among n xs ≡ false = ap (λ m. among m xs) (sym (eqb-true x n e)) ∙ is-not (among x xs) (parts .0) in
+        let h : among n xs ≡ false = ap (λ m. among m xs) (sym (eqb-true x n e)) ∙ not-true (among x xs) (parts .0) in
         let g = ap length (without-all n xs h) in omega arith
     go i false e = omega arith
 
@@ -55,7 +54,7 @@ distinct-without : (n : ℕ) (ns : List ℕ) → distinct ns ≡ true → distin
 distinct-without n [] d = refl
 distinct-without n (x ∷ xs) d =
     let s = both (not (among x xs)) (distinct xs) d in
-    go (among-without x n xs (is-not (among x xs) (s .0))) (distinct-without n xs (s .1)) (eqb x n)
+    go (among-without x n xs (not-true (among x xs) (s .0))) (distinct-without n xs (s .1)) (eqb x n)
   where
     go : among x (without n xs) ≡ false → distinct (without n xs) ≡ true → (a : Bool) → distinct (cond (not a) (x ∷ without n xs) (without n xs)) ≡ true
     go e i true = i
@@ -89,15 +88,11 @@ pub marked-count : (v ns : List ℕ) → distinct ns ≡ true → ((n : ℕ) →
 marked-count v [] d h = omega arith
 marked-count v (n ∷ ns) d h =
     let s = both (not (among n ns)) (distinct ns) d in
-    let e = is-not (among n ns) (s .0) in
-    let i = marked-count (set v n 1) ns (s .1) (λ m a. rest m a (h m (or-true (eqb m n) a)) (λ q. true≢false (sym a ∙ ap (λ x. among x ns) q ∙ e))) in
+    let e = not-true (among n ns) (s .0) in
+    let i = marked-count (set v n 1) ns (s .1) (λ m a. rest m a (h m (or-second (eqb m n) a)) (λ q. true≢false (sym a ∙ ap (λ x. among x ns) q ∙ e))) in
     let c = set-count v n (here .0) (here .1) in
     omega arith
   where
-    or-true : (a : Bool) {b : Bool} → b ≡ true → (a || b) ≡ true
-    or-true true e = refl
-    or-true false e = e
-
     here : (n < length v) × (getD v n 0 ≡ 0)
     here = h n (let e : eqb n n ≡ true = eq-eqb n n refl in rw e)
 

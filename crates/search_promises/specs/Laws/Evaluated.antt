@@ -2,7 +2,7 @@
 use Prim.Native.Nat.{ℕ, suc, _+_, _-_, _≤_, _<_, min}
 use native.Mathlib.Omega.{arith}
 use mathlib.Core.Path.{_≡_, refl, sym, ap, _∙_, subst}
-use mathlib.Core.Bool.{Bool, true, false, _||_, true≢false}
+use mathlib.Core.Bool.{Bool, true, false, _||_, true≢false, or-true}
 use mathlib.Core.List.{List, [], _∷_, _++_, map, append-assoc}
 use mathlib.Core.Logic.{_⊎_, inl, inr}
 use lib.ListN.{length, getD, length-append}
@@ -137,10 +137,6 @@ module _ (g : Given) (bs : List ℕ) (s : State) (r : Reached) (P : Promises g b
             starts-told g start (P .story) (p .block) (at (p .place) (found (v .0))) (m .turnsBefore) (m .eventsBefore) (m .eventsAfter) (m .turnsAfter) (m .told)
             ∙ ap (λ b. among start (startsOf g (eventsOf (m .turnsBefore) ++ m .eventsBefore)) || (b || among start (startsOf g (m .eventsAfter ++ eventsOf (m .turnsAfter))))) same
             ∙ or-true (among start (startsOf g (eventsOf (m .turnsBefore) ++ m .eventsBefore)))
-          where
-            or-true : (a : Bool) → (a || true) ≡ true
-            or-true true = refl
-            or-true false = refl
 
         else-in : InSkipped g bs (P .story) p ⊎ (VisitedBefore g bs s (P .story) p ⊎ StoppedBefore g bs r (P .story) p) → among start (startsOf g (eventsOf (P .story))) ≡ true
         else-in (inl m) = absurd (none-skipped (m .turnsBefore) (p .block) (m .turnsAfter) (m .told))

@@ -1,7 +1,7 @@
 -- Laws of Ran: every accepted search has it, and the next one finds all that it needs.
 use Prim.Native.Nat.{ℕ, _+_, _≤_}
 use native.Mathlib.Omega.{arith}
-use mathlib.Core.Path.{_≡_, refl, sym, ap, _∙_, subst}
+use mathlib.Core.Path.{_≡_, sym, ap, _∙_, subst}
 use mathlib.Core.Bool.{Bool, true, not, _&&_}
 use mathlib.Core.List.{List, _++_, map}
 use lib.ListN.{length, take, drop, length-append, length-drop, length-map}
@@ -25,7 +25,7 @@ use Rattle.kept_list.specs.Laid.{RoomFor}
 use Rattle.kept_list.specs.Push.{isNumber, wellKept}
 use Rattle.kept_list.specs.Laws.WellKept.{well-kept, is-well-kept}
 use Rattle.sparse_scores.specs.WellFormed.{wellFormed}
-use Rattle.search_probe.specs.Probing.{State, Reached, goesOn, stopsAt, left}
+use Rattle.search_probe.specs.Probing.{State, left}
 use Rattle.search_probe.specs.Probed.{Lends, bytesOf, restOf, laid}
 use Rattle.search.specs.Searched.{Question, givenFor, swept, tests}
 use Rattle.search.specs.Trace.{entriesOf, startsOf, eventsOf}
@@ -35,6 +35,7 @@ use Rattle.search.specs.Laws.Promises.{search-promises, visits-at-exit}
 use Rattle.search.specs.Laws.KeptNumbers.{kept-numbers}
 use Rattle.search.specs.Laws.Numbers.{roomy}
 use Rattle.search_promises.specs.Ran.{Ran}
+use Rattle.search_probe.specs.Laws.Laid.{laid-list}
 
 module _ (q : Question) (l : Lends) (b : Bool) (accepted : firstOf (tests q l b) ≡ Accepted) (blocks : List ℕ) where
   faults : Faultless (tests q l b)
@@ -63,10 +64,6 @@ module _ (q : Question) (l : Lends) (b : Bool) (accepted : firstOf (tests q l b)
   few : length (last .kept) ≤ q .k
   few = let z = ap length (promises .sweeps .keeps-best) in omega (arith, length-kBest better better-order (q .k) all)
 
-  kept-laid : (r : Reached) → (laid (q .terms) l r) .lent .kept ≡ written ((left r) .kept) (l .kept)
-  kept-laid (goesOn s) = refl
-  kept-laid (stopsAt r i s) = refl
-
   kept-best : entries kept ≡ kBest better (q .k) all
   kept-best = entries-written (last .kept) (l .kept) ∙ promises .sweeps .keeps-best
 
@@ -78,7 +75,7 @@ module _ (q : Question) (l : Lends) (b : Bool) (accepted : firstOf (tests q l b)
         held = omega (arith, length-append (map packedOf (last .kept)) (drop (length (last .kept)) (l .kept .packed)), length-map (last .kept) packedOf);
         held-scores = omega (arith, length-append (map scoreOf (last .kept)) (drop (length (last .kept)) (l .kept .scores)), length-map (last .kept) scoreOf);
         best-first = ap (inOrder better) kept-best ∙ sorted-kBest better better-order (q .k) all;
-        numbers = ap (λ m. every isNumber (entries m)) (sym (kept-laid (swept q blocks l))) ∙ kept-numbers q l b accepted blocks;
+        numbers = ap (λ m. every isNumber (entries m)) (sym (laid-list (q .terms) l (swept q blocks l))) ∙ kept-numbers q l b accepted blocks;
       })
 
   room-kept : RoomFor (q .k) kept
@@ -99,7 +96,7 @@ module _ (q : Question) (l : Lends) (b : Bool) (accepted : firstOf (tests q l b)
 
   pub ran : Ran q l blocks ((laid (q .terms) l (swept q blocks l)) .lent)
   ran =
-      let k = kept-laid (swept q blocks l) in
+      let k = laid-list (q .terms) l (swept q blocks l) in
       let v = visits-at-exit q l b accepted blocks in
       record {
         accepted = subst (λ c. firstOf (tests q l c) ≡ Accepted) (roomy q l b accepted .1 .1) accepted;

@@ -1,7 +1,7 @@
 -- The first and the last of those with the greatest score: where a list is cut by them.
 use mathlib.Core.Path.{_≡_, refl, sym, ap, _∙_, subst}
 use mathlib.Core.Bool.{Bool, true, false, not, _&&_, cond}
-use mathlib.Core.List.{List, [], _∷_, _++_, foldl, append-assoc}
+use mathlib.Core.List.{List, [], _∷_, _++_, foldl, append-assoc, append-nil}
 use Rattle.sequences.specs.Lists.{EachOf, those, every, firstOr, lastOr}
 use Rattle.sequences.specs.Laws.Groups.{those-append}
 use Rattle.sequences.specs.Laws.Each.{each-append, each-those, each-to, each-every}
@@ -80,22 +80,19 @@ module _ {A : Type 0} (le : A → A → Bool) where
     each-and Q R f [] p e = tt
     each-and Q R f (x ∷ l) p e = (f x (p .0) (e .0), each-and Q R f l (p .1) (e .1))
 
+    -- x goes to the front with what stood before it, or to the back
+    shift : (front : List A) (c : A) (back : List A) (x : A) (xs : List A) → (front ++ (c ∷ back)) ++ (x ∷ xs) ≡ front ++ (c ∷ (back ++ (x ∷ xs)))
+    shift front c back x xs = append-assoc front (c ∷ back) (x ∷ xs)
+
+    shift' : (front : List A) (c : A) (back : List A) (x : A) (xs : List A) → front ++ (c ∷ ((back ++ (x ∷ [])) ++ xs)) ≡ front ++ (c ∷ (back ++ (x ∷ xs)))
+    shift' front c back x xs = ap (λ z. front ++ (c ∷ z)) (append-assoc back (x ∷ []) xs)
+
     -- c is the last greatest of front, c and back, and xs is still to come
     last-go : (d : A) (front : List A) (c : A) (back xs : List A) → EachOf P front → P c → EachOf P back → EachOf P xs → EachOf (Under c) front → EachOf (Under c) back → EachOf (Below c) back
         → lastOr d (highest (front ++ (c ∷ (back ++ xs)))) ≡ lastBest c xs
-    last-go d front c back [] pf pc pb px f b g = subst (λ z. lastOr d (highest (front ++ (c ∷ z))) ≡ c) (sym (nil-end back)) (last-greatest front c back (reflexive c pc) d f b g)
-      where
-        nil-end : (l : List A) → l ++ [] ≡ l
-        nil-end [] = refl
-        nil-end (x ∷ l) = ap (λ z. x ∷ z) (nil-end l)
+    last-go d front c back [] pf pc pb px f b g = subst (λ z. lastOr d (highest (front ++ (c ∷ z))) ≡ c) (sym (append-nil back)) (last-greatest front c back (reflexive c pc) d f b g)
     last-go d front c back (x ∷ xs) pf pc pb px f b g = go (le c x) refl (last-go d (front ++ (c ∷ back)) x [] xs) (last-go d front c (back ++ (x ∷ [])) xs)
       where
-        shift : (front ++ (c ∷ back)) ++ (x ∷ xs) ≡ front ++ (c ∷ (back ++ (x ∷ xs)))
-        shift = append-assoc front (c ∷ back) (x ∷ xs)
-
-        shift' : front ++ (c ∷ ((back ++ (x ∷ [])) ++ xs)) ≡ front ++ (c ∷ (back ++ (x ∷ xs)))
-        shift' = ap (λ z. front ++ (c ∷ z)) (append-assoc back (x ∷ []) xs)
-
         up : le c x ≡ true → (y : A) → P y → Under c y → Under x y
         up h y py u = trans y c x py pc (px .0) u h
 
@@ -106,11 +103,11 @@ module _ {A : Type 0} (le : A → A → Bool) where
             → lastOr d (highest (front ++ (c ∷ ((back ++ (x ∷ [])) ++ xs)))) ≡ lastBest c xs)
             → lastOr d (highest (front ++ (c ∷ (back ++ (x ∷ xs))))) ≡ lastBest (cond z x c) xs
         go true h i j =
-            ap (λ l. lastOr d (highest l)) (sym shift)
+            ap (λ l. lastOr d (highest l)) (sym (shift front c back x xs))
             ∙ i (each-append P front (c ∷ back) pf (pc, pb)) (px .0) tt (px .1)
             (each-append (Under x) front (c ∷ back) (each-and (Under c) (Under x) (up h) front pf f) (h, each-and (Under c) (Under x) (up h) back pb b)) tt tt
         go false h i j =
-            ap (λ l. lastOr d (highest l)) (sym shift')
+            ap (λ l. lastOr d (highest l)) (sym (shift' front c back x xs))
             ∙ j pf pc (each-append P back (x ∷ []) pb (px .0, tt)) (px .1) f
             (each-append (Under c) back (x ∷ []) b (total c x pc (px .0) h, tt)) (each-append (Below c) back (x ∷ []) g (h, tt))
 
@@ -121,19 +118,9 @@ module _ {A : Type 0} (le : A → A → Bool) where
     -- c is the first greatest of front, c and back, and xs is still to come
     first-go : (d : A) (front : List A) (c : A) (back xs : List A) → EachOf P front → P c → EachOf P back → EachOf P xs → EachOf (Under c) front → EachOf (Below c) front → EachOf (Under c) back
         → firstOr d (highest (front ++ (c ∷ (back ++ xs)))) ≡ firstBest c xs
-    first-go d front c back [] pf pc pb px f g b = subst (λ z. firstOr d (highest (front ++ (c ∷ z))) ≡ c) (sym (nil-end back)) (first-greatest front c back (reflexive c pc) d f g b)
-      where
-        nil-end : (l : List A) → l ++ [] ≡ l
-        nil-end [] = refl
-        nil-end (x ∷ l) = ap (λ z. x ∷ z) (nil-end l)
+    first-go d front c back [] pf pc pb px f g b = subst (λ z. firstOr d (highest (front ++ (c ∷ z))) ≡ c) (sym (append-nil back)) (first-greatest front c back (reflexive c pc) d f g b)
     first-go d front c back (x ∷ xs) pf pc pb px f g b = go (le x c) refl (first-go d (front ++ (c ∷ back)) x [] xs) (first-go d front c (back ++ (x ∷ [])) xs)
       where
-        shift : (front ++ (c ∷ back)) ++ (x ∷ xs) ≡ front ++ (c ∷ (back ++ (x ∷ xs)))
-        shift = append-assoc front (c ∷ back) (x ∷ xs)
-
-        shift' : front ++ (c ∷ ((back ++ (x ∷ [])) ++ xs)) ≡ front ++ (c ∷ (back ++ (x ∷ xs)))
-        shift' = ap (λ z. front ++ (c ∷ z)) (append-assoc back (x ∷ []) xs)
-
         up : le x c ≡ false → (y : A) → P y → Under c y → Under x y
         up h y py u = trans y c x py pc (px .0) u (total x c (px .0) pc h)
 
@@ -150,9 +137,11 @@ module _ {A : Type 0} (le : A → A → Bool) where
             → (EachOf P front → P c → EachOf P (back ++ (x ∷ [])) → EachOf P xs → EachOf (Under c) front → EachOf (Below c) front → EachOf (Under c) (back ++ (x ∷ []))
             → firstOr d (highest (front ++ (c ∷ ((back ++ (x ∷ [])) ++ xs)))) ≡ firstBest c xs)
             → firstOr d (highest (front ++ (c ∷ (back ++ (x ∷ xs))))) ≡ firstBest (cond z c x) xs
-        go true h i j = ap (λ l. firstOr d (highest l)) (sym shift') ∙ j pf pc (each-append P back (x ∷ []) pb (px .0, tt)) (px .1) f g (each-append (Under c) back (x ∷ []) b (h, tt))
+        go true h i j =
+            ap (λ l. firstOr d (highest l)) (sym (shift' front c back x xs))
+            ∙ j pf pc (each-append P back (x ∷ []) pb (px .0, tt)) (px .1) f g (each-append (Under c) back (x ∷ []) b (h, tt))
         go false h i j =
-            ap (λ l. firstOr d (highest l)) (sym shift)
+            ap (λ l. firstOr d (highest l)) (sym (shift front c back x xs))
             ∙ i (each-append P front (c ∷ back) pf (pc, pb)) (px .0) tt (px .1)
             (each-append (Under x) front (c ∷ back) (each-and (Under c) (Under x) (up h) front pf f) (total x c (px .0) pc h, each-and (Under c) (Under x) (up h) back pb b))
             (each-append (Below x) front (c ∷ back) (each-and (Under c) (Below x) (down h) front pf f) (h, each-and (Under c) (Below x) (down h) back pb b)) tt

@@ -4,11 +4,11 @@ use native.Mathlib.Omega.{arith}
 use native.Mathlib.Decide.{decLe}
 use mathlib.Core.Path.{_≡_, refl, sym, ap, _∙_}
 use mathlib.Core.Logic.{_⊎_, inl, inr}
-use mathlib.Core.Bool.{Bool, true, false, not, _&&_, _||_, true≢false, or-assoc}
+use mathlib.Core.Bool.{Bool, true, false, not, _&&_, _||_, true≢false, and-assoc, or-assoc}
 use mathlib.Core.List.{List, [], _∷_, _++_, map, List·Permᴰ}
 use mir.Val.{boolByte}
 use lib.ListN.{length, getD, take, drop, length-take, length-drop}
-use lib.Seq.{take-all}
+use lib.Seq.{take-all, length-take-le}
 use lib.Dec.{leb, ltb, eqb}
 use borrow.Author.Tests.{lt-ltb, le-ltb, le-leb, lt-leb, eqb-true, eqb-false, eq-eqb, ne-eqb}
 use Rattle.sequences.specs.Lists.{those, EachOf, every, lastOr, part, between, from, among, neverFalls}
@@ -26,14 +26,6 @@ both false b e = absurd (true≢false (sym e))
 pub and-right : (a b : Bool) → (a && b) ≡ true → b ≡ true
 and-right a b e = both a b e .1
 
-pub and-true : (a : Bool) → (a && true) ≡ a
-and-true true = refl
-and-true false = refl
-
-pub and-assoc : (a b c : Bool) → (a && (b && c)) ≡ ((a && b) && c)
-and-assoc true b c = refl
-and-assoc false b c = refl
-
 pub neither : (a b : Bool) → (a || b) ≡ false → (a ≡ false) × (b ≡ false)
 neither true b e = absurd (true≢false e)
 neither false b e = (refl, e)
@@ -43,6 +35,10 @@ or-left a b e = neither a b e .0
 
 pub or-right : (a b : Bool) → (a || b) ≡ false → b ≡ false
 or-right a b e = neither a b e .1
+
+pub or-second : (a : Bool) {b : Bool} → b ≡ true → (a || b) ≡ true
+or-second true e = refl
+or-second false e = e
 
 pub byte-small : (b : Bool) → boolByte b ≤ 1
 byte-small true = omega arith
@@ -107,6 +103,12 @@ take-map f (suc n) [] = refl
 take-map f (suc n) (x ∷ l) = ap (λ m. f x ∷ m) (take-map f n l)
 
 -- the first m, cut to as many as there are
+pub least-long : (m n k : ℕ) → k ≡ min m n → k ≤ n
+least-long m n k e = omega arith
+
+pub least-count : {A : Type 0} (xs : List A) (m n : ℕ) → n ≡ min m (length xs) → n ≡ length (take n xs)
+least-count xs m n e = sym (length-take-le n xs (least-long m (length xs) n e))
+
 pub cut-is : {A : Type 0} (xs : List A) (m n : ℕ) → n ≡ min m (length xs) → take n xs ≡ take m xs
 cut-is xs m n e = go (decLe m (length xs))
   where
@@ -138,7 +140,7 @@ every-each p (x ∷ l) h = let b = both (p x) (every p l) h in (b .0, every-each
 
 pub every-append : {A : Type 0} (p : A → Bool) (a b : List A) → every p (a ++ b) ≡ (every p a && every p b)
 every-append p [] b = refl
-every-append p (x ∷ a) b = ap (λ t. p x && t) (every-append p a b) ∙ and-assoc (p x) (every p a) (every p b)
+every-append p (x ∷ a) b = ap (λ t. p x && t) (every-append p a b) ∙ sym (and-assoc (p x) (every p a) (every p b))
 
 pub every-front : {A : Type 0} (p : A → Bool) (a b : List A) → every p (a ++ b) ≡ true → every p a ≡ true
 every-front p a b h = both (every p a) (every p b) (sym (every-append p a b) ∙ h) .0

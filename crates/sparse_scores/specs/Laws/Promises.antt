@@ -3,7 +3,7 @@ use Prim.Native.Nat.{ℕ, zero, suc, _-_, _*_, _^_, _≤_, _<_}
 use native.Mathlib.Omega.{arith}
 use mathlib.Core.Path.{_≡_, subst}
 use mathlib.Core.Bool.{Bool, true, false, not, _&&_, cond}
-use mathlib.Core.List.{List, [], _∷_, _++_, map, zipWith}
+use mathlib.Core.List.{List, [], _∷_, map, zipWith}
 use lib.ListN.{length, getD, drop}
 use lib.Dec.{T, leb, eqb}
 use lib.Ieee.{Float, nan, binary32, isNan, mul}
@@ -11,11 +11,12 @@ use lib.Ieee.Scale.{finite}
 use borrow.Author.Tests.{eqb-true}
 use Rattle.sequences.specs.Lists.{EachOf, every, between, joined, withKey, strictlyRise}
 use Rattle.sequences.specs.Laws.Lists.{both}
-use Rattle.sequences.specs.Laws.Each.{each-at, each-take, each-drop, each-those}
+use Rattle.sequences.specs.Laws.Each.{each-append, each-at, each-take, each-drop, each-those}
 use Rattle.float32.specs.Bound.{inBound, Bounded}
 use Rattle.float32.specs.Laws.BoundLaws.{in-bound-bounded}
 use Rattle.float32.specs.Sums.{Within}
 use Rattle.float32.specs.Laws.Sums.{within-finite, within-no-nan, read-product-within}
+use Rattle.float32.specs.Laws.LongSums.{summary-score-within}
 use Rattle.blocking.specs.Limits.{listLimit, blockLimit}
 use Rattle.documents.specs.Documents.{Term, dot}
 use Rattle.quantizing.specs.Quantizing.{minimumAllowed, stepAllowed}
@@ -26,7 +27,6 @@ use Rattle.sparse_scores.specs.WellFormed.{blocksHold, lengthsHold, offs
 use Rattle.sparse_scores.specs.Scores.{valueOf, addedBy, scoreOf}
 use Rattle.sparse_scores.specs.ReadBack.{termsOf}
 use Rattle.sparse_scores.specs.Laws.ReadBack.{score-is-dot}
-use Rattle.sparse_scores.specs.Laws.Stays.{products-stay}
 use Rattle.sparse_scores.specs.Promises.{Typed, Parts}
 
 pub parts : (postings : ℕ) (blockOffsets : List ℕ) (l : Layout) → wellFormed postings blockOffsets l ≡ true → Parts l
@@ -94,16 +94,12 @@ module _ (postings : ℕ) (blockOffsets : List ℕ) (l : Layout) (query : List T
   all-each [] f h = tt
   all-each (q ∷ qs) f h =
       let a = both (inBound (q .value)) (every (λ q. inBound (q .value)) qs) h in
-      append (addedBy l s q) (joined (map (addedBy l s) qs)) (added-each q (in-bound-bounded (q .value) (f .0) (a .0))) (all-each qs (f .1) (a .1))
-    where
-      append : (xs ys : List Float) → EachOf (Within (1 * 2 ^ 222)) xs → EachOf (Within (1 * 2 ^ 222)) ys → EachOf (Within (1 * 2 ^ 222)) (xs ++ ys)
-      append [] ys e g = g
-      append (x ∷ xs) ys e g = (e .0, append xs ys (e .1) g)
+      each-append (Within (1 * 2 ^ 222)) (addedBy l s q) (joined (map (addedBy l s) qs)) (added-each q (in-bound-bounded (q .value) (f .0) (a .0))) (all-each qs (f .1) (a .1))
 
   -- at most 2 ^ 98, in units of 2 ^ -149
   pub score-within : Within (1 * 2 ^ 247) (scoreOf l query s)
   unfolding scoreOf
-  score-within = products-stay (joined (map (addedBy l s) query)) (all-each query (typed .values) allowed)
+  score-within = summary-score-within (joined (map (addedBy l s) query)) (all-each query (typed .values) allowed)
 
   -- finite, and so never a NaN
   pub score-finite : T (finite (scoreOf l query s))

@@ -10,7 +10,7 @@ use borrow.Author.Tests.{lt-ltb, le-ltb, eq-eqb, ne-eqb, eqb-true, eqb-false}
 use Rattle.sequences.specs.Lists.{those, among, putOnce, rising}
 use Rattle.sequences.specs.Groups.{RisesFrom}
 use Rattle.sequences.specs.Laws.Groups.{Against, less, same, more, against, rising-rises, among-rising, those-append}
-use Rattle.sequences.specs.Laws.Lists.{permuted-length}
+use Rattle.sequences.specs.Laws.Lists.{permuted-length, or-second}
 
 abbrev pub but : ℕ → ℕ → Bool
 but c k = not (eqb k c)
@@ -106,12 +106,8 @@ rises-count : (n b : ℕ) (l : List ℕ) → RisesFrom b l → b ≤ n → Below
 rises-count n b [] r h f = omega arith
 rises-count n b (x ∷ l) r h f =
     let x< : x < n = f x (ap (λ t. t || among x l) (eq-eqb x x refl)) in
-    let i : suc x + length l ≤ n = rises-count n (suc x) l (r .1) x< (λ m e. f m (later (eqb m x) e)) in
+    let i : suc x + length l ≤ n = rises-count n (suc x) l (r .1) x< (λ m e. f m (or-second (eqb m x) e)) in
     omega (arith, r .0)
-  where
-    later : (b : Bool) {t : Bool} → t ≡ true → (b || t) ≡ true
-    later true e = refl
-    later false e = e
 
 pub firsts-count : (n : ℕ) (l : List ℕ) → Below n l → length (firsts l) ≤ n
 firsts-count n l f =
@@ -136,8 +132,4 @@ place-among c (x ∷ l) h = go (eqb c x) refl h (place-among c l)
 pub among-place : (l : List ℕ) (k : ℕ) → k < length l → among (getD l k 0) l ≡ true
 among-place [] k h = let z : ⊥ = omega arith in absurd z
 among-place (x ∷ l) zero h = ap (λ t. t || among x l) (eq-eqb x x refl)
-among-place (x ∷ l) (suc k) h = later (eqb (getD l k 0) x) (among-place l k (omega arith))
-  where
-    later : (b : Bool) {t : Bool} → t ≡ true → (b || t) ≡ true
-    later true e = refl
-    later false e = e
+among-place (x ∷ l) (suc k) h = or-second (eqb (getD l k 0) x) (among-place l k (omega arith))

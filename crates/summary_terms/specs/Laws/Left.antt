@@ -9,12 +9,12 @@ use lib.IntN.{pos}
 use lib.Dec.{eqb}
 use lib.Ieee.{Float, fin}
 use borrow.Author.Tests.{eqb-true, eqb-false}
-use Rattle.sequences.specs.Lists.{EachOf, among, rising}
+use Rattle.sequences.specs.Lists.{EachOf, among}
 use Rattle.sequences.specs.Laws.Groups.{among-rising}
 use Rattle.sequences.specs.Laws.Sorted.{sort-permutes, map-permutes}
 use Rattle.sequences.specs.Laws.Lists.{among-permuted}
 use Rattle.sort.specs.Sorted.{sorted}
-use Rattle.documents.specs.Documents.{Term, term, greaterFirst, falling}
+use Rattle.documents.specs.Documents.{Term, greaterFirst, falling}
 use Rattle.documents.specs.TermKeys.{termKey, componentOf, valueOfTerm}
 use Rattle.documents.specs.Laws.TermKeys.{Held, component-back, value-back}
 use Rattle.configuration.specs.declared.SummarizationStrategy.{SummarizationStrategy}
@@ -25,6 +25,7 @@ use Rattle.summary_maximum.specs.Changes.{components, maximumOf}
 use Rattle.summary_maximum.specs.Laws.Meetings.{Holds}
 use Rattle.summary_terms.specs.Laws.Finishing.{falling-held, sorted-pairs, maxima-count}
 use Rattle.summary_terms.specs.Laws.Counts.{kept-count}
+use Rattle.summary_terms.specs.Laws.Once.{components-maxima}
 
 -- ---- places set to 0, one after another
 module _ {A : Type 0} (g : A → ℕ) where
@@ -56,12 +57,8 @@ among-falling : (ts : List Term) (c : ℕ) → among c (components (falling (max
 unfolding falling maxima
 among-falling ts c =
     among-permuted c (map-permutes (λ t. t .component) (sort-permutes greaterFirst (maxima ts)))
-    ∙ ap (among c) (own (rising (components ts)))
+    ∙ ap (among c) (components-maxima ts)
     ∙ among-rising c (components ts)
-  where
-    own : (l : List ℕ) → components (map (λ c. term c (maximumOf ts c)) l) ≡ l
-    own [] = refl
-    own (c ∷ l) = ap (λ z. c ∷ z) (own l)
 
 module _ (K P : List ℕ) (M : List Float) (F : List ℕ) (ts : List Term) (E : EachOf Held ts) (s : Met) (H : Holds K P M F ts s)
     (strategy : SummarizationStrategy) (r : ℕ) (keys places : List ℕ) (maxs : List Float) (D : FinishedFirst strategy s r keys places maxs) where

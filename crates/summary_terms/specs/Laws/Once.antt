@@ -47,7 +47,7 @@ components-take zero l = refl
 components-take (suc n) [] = refl
 components-take (suc n) (t ∷ l) = ap (λ z. t .component ∷ z) (components-take n l)
 
-components-maxima : (ts : List Term) → components (maxima ts) ≡ rising (components ts)
+pub components-maxima : (ts : List Term) → components (maxima ts) ≡ rising (components ts)
 unfolding maxima
 components-maxima ts = go (rising (components ts))
   where

@@ -14,7 +14,7 @@ use Rattle.configuration.specs.declared.SummarizationStrategy.the-variants.{Fix
 use Rattle.sequences.specs.Lists.{EachOf, before, among, rising}
 use Rattle.sequences.specs.Laws.Groups.{among-rising}
 use Rattle.sequences.specs.Laws.Sorted.{each-sortedBy}
-use Rattle.sequences.specs.Laws.Lists.{map-at as getD-map}
+use Rattle.sequences.specs.Laws.Lists.{map-at as getD-map, or-second}
 use Rattle.sequences.specs.Laws.Each.{each-take, each-at}
 use Rattle.float32.specs.Order.{atMost}
 use Rattle.float32.specs.Laws.OrderLaws.{atMost-total}
@@ -37,13 +37,9 @@ kept-first (EnergyPreserving energy) ts = (enough energy (map (λ t. t .value) (
 here : (ks : List ℕ) → EachOf (λ c. among c ks ≡ true) ks
 here ks = go [] ks
   where
-    or-true : (z : Bool) {y : Bool} → y ≡ true → (z || y) ≡ true
-    or-true true h = refl
-    or-true false h = h
-
     skip : (c : ℕ) (a b : List ℕ) → among c (a ++ (c ∷ b)) ≡ true
     skip c [] b = ap (λ t. t || among c b) (eq-eqb c c refl)
-    skip c (x ∷ a) b = or-true (eqb c x) (skip c a b)
+    skip c (x ∷ a) b = or-second (eqb c x) (skip c a b)
 
     go : (a b : List ℕ) → EachOf (λ c. among c (a ++ b) ≡ true) b
     go a [] = tt

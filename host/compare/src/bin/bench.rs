@@ -54,11 +54,11 @@ mod sides {
 
     fn of_original(l: original::List) -> List {
         List {
-            packed: l.packed,
+            postings: l.packed,
             block_offsets: l.block_offsets,
-            components: l.components,
+            summary_components: l.components,
             component_offsets: l.component_offsets,
-            ids: l.ids,
+            summary_ids: l.ids,
             codes: l.codes,
             minimums: l.minimums,
             steps: l.steps,
@@ -81,11 +81,11 @@ mod sides {
         let l = PostingList::build(documents, DIMENSION, ids, centroids, &configuration).unwrap();
         let took = start.elapsed().as_secs_f64();
         let list = List {
-            packed: l.postings,
+            postings: l.postings,
             block_offsets: l.block_offsets,
-            components: l.components,
+            summary_components: l.summary_components,
             component_offsets: l.component_offsets,
-            ids: l.summary_ids,
+            summary_ids: l.summary_ids,
             codes: l.codes,
             minimums: l.minimums,
             steps: l.steps,
@@ -118,7 +118,7 @@ mod sides {
             rounds += 1;
             if begun.elapsed().as_secs_f64() >= seconds && rounds >= 3 {
                 let (a, b) = (ours / rounds as f64 * 1e3, theirs / rounds as f64 * 1e3);
-                println!("{size} postings, {} blocks, {} entries", list.minimums.len(), list.ids.len());
+                println!("{size} postings, {} blocks, {} entries", list.minimums.len(), list.summary_ids.len());
                 match ours > 0.0 {
                     true => println!("  build         : ours {a:>8.1} ms, original {b:>8.1} ms, ratio {:.2}", a / b),
                     false => println!("  build         : original {b:>8.1} ms; the library has no build yet"),
@@ -162,7 +162,7 @@ mod sides {
             input.query_components = q.iter().map(|t| t.0).collect();
             input.query_values = q.iter().map(|t| t.1).collect();
             b.length = 0;
-            list.packed.iter().for_each(|p| b.visits[start_of(*p) as usize] = 0);
+            list.postings.iter().for_each(|p| b.visits[start_of(*p) as usize] = 0);
             let (answer, t) = ours::timed_search(&input, &mut b);
             ours += t;
             let start = Instant::now();

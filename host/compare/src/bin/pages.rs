@@ -54,7 +54,7 @@ fn main() {
             component_offsets: vec![0],
             minimums: vec![0.0],
             steps: vec![0.0],
-            packed: packed.clone(),
+            postings: packed.clone(),
             ..Default::default()
         };
         let mut input = model::SearchInput { query_components: vec![], query_values: vec![], k: 10, factor: 0.8, components, values, list, sorted: false };

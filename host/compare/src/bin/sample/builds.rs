@@ -33,7 +33,7 @@ fn settings(r: &mut Random, g: &BuildInput) -> Vec<u32> {
 
 fn fits(g: &BuildInput, l: &List) -> bool {
     let terms: usize = g.centroids.iter().map(|&c| g.documents.terms(c).len()).sum();
-    let needs = [g.ids.len().max(g.centroids.len()), l.block_offsets.len(), terms, l.ids.len(), l.component_offsets.len()];
+    let needs = [g.ids.len().max(g.centroids.len()), l.block_offsets.len(), terms, l.summary_ids.len(), l.component_offsets.len()];
     needs.iter().zip(ROOM).all(|(n, room)| *n <= room)
 }
 
