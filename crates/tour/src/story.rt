@@ -176,8 +176,8 @@ fn say_missed(page: u64, bay: u64) {
 // The course of a search: its turns, and why every page that it does not keep is not kept.
 fn tell_course(
     question: Question,
-    asked: &[u32],
-    weights: &[f32],
+    query_components: &[u32],
+    query_values: &[f32],
     components: &[u32],
     values: &[f32],
     postings: &[u64],
@@ -195,8 +195,8 @@ fn tell_course(
     while t < turns {
         let seen = explain_small::see_turn(
             t,
-            asked,
-            weights,
+            query_components,
+            query_values,
             KEPT as u64,
             question.factor,
             components,
@@ -218,8 +218,8 @@ fn tell_course(
             let fate = explain_small::fate_of(
                 i,
                 turns,
-                asked,
-                weights,
+                query_components,
+                query_values,
                 KEPT as u64,
                 question.factor,
                 components,
@@ -261,11 +261,11 @@ fn search_built(
     minimums: &[f32],
     steps: &[f32],
 ) {
-    let asked = [
+    let query_components = [
         pages::component(question.bay),
         pages::component(pages::PLANNED),
     ];
-    let weights = [1.0, 2.0];
+    let query_values = [1.0, 2.0];
     let mut length = 0u64;
     let mut packed = [0u64; KEPT];
     let mut scores = [0.0f32; KEPT];
@@ -273,8 +273,8 @@ fn search_built(
     let mut block_scores = [0.0f32; ROOM];
     let mut block_order = [0u64; ROOM];
     let answer = search::sort_and_search(
-        &asked,
-        &weights,
+        &query_components,
+        &query_values,
         KEPT as u64,
         question.factor,
         components,
@@ -298,8 +298,8 @@ fn search_built(
         say_found(offsets, length, &packed, &scores);
         tell_course(
             question,
-            &asked,
-            &weights,
+            &query_components,
+            &query_values,
             components,
             values,
             postings,
