@@ -1,22 +1,22 @@
 -- The parts of a reading, place by place as the loops go.
 use mathlib.Core.Path.{_≡_, refl, sym, ap, _∙_}
 use mathlib.Core.List.{List, [], _∷_}
-use mathlib.Core.Bool.{Bool, true, false, cond}
-use Prim.Native.Nat.{ℕ, _+_, _≤_, _<_, _%_, min}
+use mathlib.Core.Bool.{Bool, true, false, _&&_, cond}
+use Prim.Native.Nat.{ℕ, _+_, _-_, _≤_, _<_, _%_, min}
 use native.Mathlib.Omega.{arith}
 use native.Mathlib.Numerals.{add-one}
-use borrow.Author.Tests.{lt-ltb, le-ltb, eq-eqb, ne-eqb, ltb-true, ltb-false}
+use borrow.Author.Tests.{lt-ltb, le-ltb, eq-eqb, ne-eqb, ltb-true, ltb-false, eqb-true, eqb-false}
 use lib.ListN.{length, getD, drop, set, drop-of-length-le}
 use lib.Seq.{drop-cons, drop-length}
-use lib.Dec.{ltb}
+use lib.Dec.{eqb, ltb}
 use lib.Ieee.{Float, nan, binary32, ofBits, add, mul}
 use Rattle.sequences.specs.Lists.{every}
 use Rattle.sequences.specs.Laws.Lists.{both}
 use Rattle.documents.specs.Checks.{slicesHold, slicesHoldBelow}
-use Rattle.documents.specs.Laws.Documents.{slices-even, slices-below}
+use Rattle.documents.specs.Laws.Documents.{slices-even, slices-below, slices-below-none, slices-below-last}
 use Rattle.search_page.specs.declared.Reading.the-variants.{Breaks, Score}
 use Rattle.search_page.specs.declared.Sum.{Sum}
-use Rattle.search_page.specs.Through.{laying, laidSum, marking, sumOf, belows, sought, looked, stepped, through, readThrough}
+use Rattle.search_page.specs.Through.{laying, laidSum, marking, sumOf, belows, sought, looked, stepped, through, lastFits, readThrough}
 
 -- ---- the sieve
 pub marking-step : (sieve qs : List ℕ) (i : ℕ) → i < length qs → marking (set sieve (getD qs i 0 % 4096) 1) (drop (i + 1) qs) ≡ marking sieve (drop i qs)
@@ -155,3 +155,27 @@ module _ (table : List Float) (sieve qs : List ℕ) (ws : List Float) (cs : List
   pub breaks : slicesHoldBelow 32768 cs vs ≡ false → slicesHold cs vs ≡ false → Breaks ≡ readThrough table sieve qs ws cs vs
   unfolding readThrough
   breaks b h = rw (b, h)
+
+-- ---- where the terms hold, the last component says which way is taken
+pub fits-none : (cs : List ℕ) → length cs ≡ 0 → true ≡ lastFits cs
+fits-none cs e = rw (eq-eqb (length cs) 0 e)
+
+pub fits-last : (cs : List ℕ) → (length cs ≡ 0 → ⊥) → ltb (getD cs (length cs - 1) 0) 32768 ≡ lastFits cs
+fits-last cs n = rw (ne-eqb (length cs) 0 n)
+
+fits-below : (cs : List ℕ) (vs : List Float) → slicesHold cs vs ≡ true → slicesHoldBelow 32768 cs vs ≡ lastFits cs
+fits-below cs vs h = at (eqb (length cs) 0) refl
+  where
+    at : (b : Bool) → eqb (length cs) 0 ≡ b → slicesHoldBelow 32768 cs vs ≡ lastFits cs
+    at true e = let z = eqb-true (length cs) 0 e in slices-below-none 32768 cs vs h z ∙ fits-none cs z
+    at false e = let n = eqb-false (length cs) 0 e in slices-below-last 32768 cs vs h (omega (arith, n)) ∙ fits-last cs n
+
+module _ (table : List Float) (sieve qs : List ℕ) (ws : List Float) (cs : List ℕ) (vs : List Float) where
+  pub breaks-wide : slicesHold cs vs ≡ false → Breaks ≡ readThrough table sieve qs ws cs vs
+  breaks-wide h = breaks table sieve qs ws cs vs (slices-below 32768 cs vs ∙ ap (λ b. b && every (λ c. ltb c 32768) cs) h) h
+
+  pub reads-laid-wide : slicesHold cs vs ≡ true → lastFits cs ≡ true → (y : Float) → y ≡ laidSum table cs vs (ofBits binary32 0) → Score y ≡ readThrough table sieve qs ws cs vs
+  reads-laid-wide h f = reads-laid table sieve qs ws cs vs (fits-below cs vs h ∙ f)
+
+  pub reads-wide : slicesHold cs vs ≡ true → lastFits cs ≡ false → (y : Float) → y ≡ (through sieve qs ws cs vs (sumOf (ofBits binary32 0) 0)) .total → Score y ≡ readThrough table sieve qs ws cs vs
+  reads-wide h f = reads table sieve qs ws cs vs (fits-below cs vs h ∙ f) h

@@ -1,8 +1,8 @@
 -- A page's terms taken one by one, with the query laid out in a table or through a sieve, for any table, sieve and query: what the program
 -- does. Laws/Reads has what it comes to.
 use mathlib.Core.List.{List, [], _∷_}
-use mathlib.Core.Bool.{Bool, _&&_, cond}
-use Prim.Native.Nat.{ℕ, suc, _+_, _%_}
+use mathlib.Core.Bool.{Bool, _&&_, _||_, cond}
+use Prim.Native.Nat.{ℕ, suc, _+_, _-_, _%_}
 use lib.ListN.{length, getD, drop, set, replicate}
 use lib.Dec.{eqb, ltb}
 use lib.Ieee.{Float, nan, binary32, ofBits, add, mul}
@@ -63,6 +63,10 @@ through sieve qs ws (c ∷ cs) [] s = s
 through sieve qs ws (c ∷ cs) (v ∷ vs) s = through sieve qs ws cs vs (stepped sieve qs ws c v s)
 
 -- ---- by the table where each component has a place in it, else through the sieve
+-- of rising components the last one says whether all have a place
+abbrev pub lastFits : List ℕ → Bool
+lastFits cs = eqb (length cs) 0 || ltb (getD cs (length cs - 1) 0) 32768
+
 unfoldable pub readThrough : List Float → List ℕ → List ℕ → List Float → List ℕ → List Float → Reading
 readThrough table sieve qs ws cs vs =
     cond (slicesHoldBelow 32768 cs vs) (Score (laidSum table cs vs (ofBits binary32 0)))

@@ -5,7 +5,7 @@ ghost use Prim.Native.Nat.{_≤_, _<_, _+_, _%_};
 ghost use lib.ListN.{length, getD, drop, set};
 ghost use lib.Dec.{ltb};
 ghost use lib.Ieee.{ofBits, binary32};
-ghost use Rattle.search_page.specs.Through.{laying, laidSum, sieveOf, sought, looked, through, sumOf, readThrough};
+ghost use Rattle.search_page.specs.Through.{laying, laidSum, sieveOf, sought, looked, through, sumOf, lastFits, readThrough};
 
 // What reading a page says: its terms break their rules (14), or its score.
 pub enum Reading {
@@ -270,9 +270,21 @@ fn laid_sum(table: &[f32; 32768], components: &[u32], values: &[f32]) -> f32
     sum
 }
 
-// A page's reading by a table, or through a sieve where it has a component from 32,768 on. With the table and the sieve of a query whose
-// terms hold, it is the reading against that query (specs/Laws/Reads). It takes time in proportion to the page's terms.
-pub fn read(
+// Whether rising components all have a place in the table: the last one decides.
+fn fits_table(components: &[u32]) -> bool
+    ensures { λ r. ⌜ r ≡ lastFits (now (components .entry)) ⌝ }
+{
+    let n = components.len();
+    if n == 0 {
+        return true;
+    }
+    let last = n - 1;
+    components[last] < 32768
+}
+
+// A page's reading where its components are expected in the table: whether they are is checked with its terms, and only where they are
+// not it is looked whether the terms hold at all.
+fn read_narrow(
     table: &[f32; 32768],
     sieve: &[u8; 4096],
     components: &[u32],
@@ -291,4 +303,60 @@ pub fn read(
         return Reading::Score(score);
     }
     Reading::Breaks
+}
+
+// The same reading where some component is expected past the table: the terms are checked once, whichever way is taken then.
+fn read_wide(
+    table: &[f32; 32768],
+    sieve: &[u8; 4096],
+    components: &[u32],
+    values: &[f32],
+    query_components: &[u32],
+    query_values: &[f32],
+) -> Reading
+    ensures { λ r. ⌜ r ≡ readThrough (now (table .entry)) (now (sieve .entry)) (now («query_components» .entry)) (now («query_values» .entry)) (now (components .entry)) (now (values .entry)) ⌝ }
+{
+    if !document_checks::slices_hold(components, values) {
+        return Reading::Breaks;
+    }
+    if fits_table(components) {
+        let laid = laid_sum(table, components, values);
+        return Reading::Score(laid);
+    }
+    let score = walk(sieve, components, values, query_components, query_values);
+    Reading::Score(score)
+}
+
+// A page's reading by a table, or through a sieve where it has a component from 32,768 on. `narrow` says which of the two is expected: it
+// changes the steps that are made, and never what is read. With the table and the sieve of a query whose terms hold, it is the reading
+// against that query (specs/Laws/Reads). It takes time in proportion to the page's terms.
+pub fn read(
+    narrow: bool,
+    table: &[f32; 32768],
+    sieve: &[u8; 4096],
+    components: &[u32],
+    values: &[f32],
+    query_components: &[u32],
+    query_values: &[f32],
+) -> Reading
+    ensures { λ r. ⌜ r ≡ readThrough (now (table .entry)) (now (sieve .entry)) (now («query_components» .entry)) (now («query_values» .entry)) (now (components .entry)) (now (values .entry)) ⌝ }
+{
+    if narrow {
+        return read_narrow(
+            table,
+            sieve,
+            components,
+            values,
+            query_components,
+            query_values,
+        );
+    }
+    read_wide(
+        table,
+        sieve,
+        components,
+        values,
+        query_components,
+        query_values,
+    )
 }

@@ -1,5 +1,7 @@
 // One posting after another: a range that was not visited is read against the query by its table and sieve, and a scored one is kept if
 // it is among the k best. Nothing is assumed of the slices, nor that the table and the sieve are those of the query.
+mod ahead;
+
 ghost use mathlib.Core.Path.{_≡_};
 ghost use Prim.Native.Nat.{_+_, _-_, _≤_, min};
 ghost use lib.ListN.{length as len};
@@ -7,6 +9,7 @@ ghost use Rattle.sequences.specs.Lists.{from};
 ghost use Rattle.kept_list.specs.Lent.{lent};
 ghost use Rattle.search_postings.specs.Ranges.{rangeThrough, throughTable};
 ghost use Rattle.search_postings.specs.Postings.{lends, turned, heldEvaluate, heldProbe};
+use ahead::look_ahead;
 use number_types::RangeStart;
 use packing::PackedPosting;
 use refusal::Refusal;
@@ -31,8 +34,12 @@ pub enum Turn {
     Stopped { reason: Refusal, position: u64 },
 }
 
-// The terms from a start to below an end, read by the table or through the sieve.
+// How many postings are looked at ahead.
+const AHEAD: usize = 8;
+
+// The terms from a start to below an end, read by the table or through the sieve, whichever is expected.
 fn read_range(
+    narrow: bool,
     table: &[f32; 32768],
     sieve: &[u8; 4096],
     query_components: &[u32],
@@ -53,6 +60,7 @@ fn read_range(
         return RangeReading::ReachesPast;
     }
     let r = search_page::read(
+        narrow,
         table,
         sieve,
         &components[from..to],
@@ -69,6 +77,7 @@ fn read_range(
 // One posting: passed over where its start was visited; else its range is read, and a scored one is kept if it is among the k best,
 // and its start is marked. Nothing changes where it stops the search.
 fn evaluate(
+    narrow: bool,
     table: &[f32; 32768],
     sieve: &[u8; 4096],
     query_components: &[u32],
@@ -94,6 +103,7 @@ fn evaluate(
         return Turn::On(counts);
     }
     let r = read_range(
+        narrow,
         table,
         sieve,
         query_components,
@@ -122,7 +132,8 @@ fn evaluate(
     }
 }
 
-// The postings from one position to below another, as far as there are any, one after another. It takes time in proportion to the terms
+// The postings from one position to below another, as far as there are any, one after another. Some at a time are looked at ahead, so
+// that their terms are on their way when they are read; what that says changes only the way of reading. It takes time in proportion to the terms
 // of the postings evaluated, and a few steps for each one passed over.
 pub fn probe_postings(
     table: &[f32; 32768],
@@ -148,9 +159,16 @@ pub fn probe_postings(
 {
     let stop = cells::shorter(end as usize, postings.len());
     let mut c = counts;
+    let mut narrow = true;
+    let mut known = first;
     let mut i = first;
     while i < stop {
+        if known <= i {
+            known = cells::shorter(stop - i, AHEAD) + i;
+            narrow = look_ahead(components, values, visits, &postings[i..known]);
+        }
         let t = evaluate(
+            narrow,
             table,
             sieve,
             query_components,

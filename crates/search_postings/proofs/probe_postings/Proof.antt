@@ -12,13 +12,13 @@ use Rattle.search_postings.proofs.probe_postings.Statement.{statement}
 use Rattle.search_postings.proofs.probe_postings.Tie as tie
 
 abbrev Inv-loop : tie.InvT-loop
-Inv-loop table sieve query-components query-values components values k postings first end length₀ packed₀ scores₀ visits₀ stop c₀ i₀ length packed scores visits c i =
+Inv-loop table sieve query-components query-values components values k postings first end length₀ packed₀ scores₀ visits₀ stop c₀ narrow₀ known₀ i₀ length packed scores visits c narrow known i =
     (len packed ≡ len packed₀) × (len scores ≡ len scores₀) × (len visits ≡ len visits₀)
     × (heldProbe k (throughTable table sieve query-components query-values components values) postings (from i (stop - i)) c (lends (lent length packed scores) visits)
     ≡ heldProbe k (throughTable table sieve query-components query-values components values) postings (from first (stop - first)) c₀ (lends (lent length₀ packed₀ scores₀) visits₀))
 
 abbrev μ-loop : tie.MeasureT-loop
-μ-loop table sieve query-components query-values components values k postings first end length₀ packed₀ scores₀ visits₀ stop c₀ i₀ length packed scores visits c i = stop - i
+μ-loop table sieve query-components query-values components values k postings first end length₀ packed₀ scores₀ visits₀ stop c₀ narrow₀ known₀ i₀ length packed scores visits c narrow known i = stop - i
 
 -- the places that the needs speak of, found by their types
 abbrev evaluate-of : tie.After-known-told Inv-loop μ-loop → tie.After-evaluate Inv-loop μ-loop
@@ -42,11 +42,35 @@ shorter-requires c κs = tt
 loop-holds : tie.Need-loop-holds Inv-loop μ-loop
 loop-holds c = (refl, refl, refl, refl)
 
-mul-t26 : tie.Need-mul-t26 Inv-loop μ-loop
-mul-t26 c = search needs
+sub-shorter : tie.Need-sub-shorter Inv-loop μ-loop
+sub-shorter c = search needs
 
-shared-slice-read-t28 : tie.Need-shared-slice-read-t28 Inv-loop μ-loop
-shared-slice-read-t28 c = search needs
+shorter-requires-2 : tie.Need-shorter-requires-2 Inv-loop μ-loop
+shorter-requires-2 c κs = tt
+
+add-known : tie.Need-add-known Inv-loop μ-loop
+add-known c = search needs
+
+mul-look-ahead : tie.Need-mul-look-ahead Inv-loop μ-loop
+mul-look-ahead c = search needs
+
+sub-look-ahead : tie.Need-sub-look-ahead Inv-loop μ-loop
+sub-look-ahead c = search needs
+
+part-look-ahead-start : tie.Need-part-look-ahead-start Inv-loop μ-loop
+part-look-ahead-start c = search needs
+
+part-look-ahead-end : tie.Need-part-look-ahead-end Inv-loop μ-loop
+part-look-ahead-end c = search needs
+
+look-ahead-requires : tie.Need-look-ahead-requires Inv-loop μ-loop
+look-ahead-requires c κs = tt
+
+mul-t35 : tie.Need-mul-t35 Inv-loop μ-loop
+mul-t35 c = search needs
+
+shared-slice-read-t37 : tie.Need-shared-slice-read-t37 Inv-loop μ-loop
+shared-slice-read-t37 c = search needs
 
 evaluate-requires : tie.Need-evaluate-requires Inv-loop μ-loop
 evaluate-requires c κs = tt
@@ -131,8 +155,16 @@ probe-postings-spec =
     μ-loop
     shorter-requires
     loop-holds
-    mul-t26
-    shared-slice-read-t28
+    sub-shorter
+    shorter-requires-2
+    add-known
+    mul-look-ahead
+    sub-look-ahead
+    part-look-ahead-start
+    part-look-ahead-end
+    look-ahead-requires
+    mul-t35
+    shared-slice-read-t37
     evaluate-requires
     enum-known-t
     enum-known-t-2

@@ -1,11 +1,11 @@
--- `search_page::read`: by the table where it has a place for each component, else 14 where the terms don't hold or the sum through the
+-- `search_page::read_narrow`: by the table where it has a place for each component, else 14 where the terms don't hold or the sum through the
 -- sieve.
 use mathlib.Core.Path.{sym, _∙_}
 use Rattle.documents.specs.Laws.Documents.{slices-even as holds-even}
 use Rattle.search_page.proofs.Laws.{reads-laid, reads as reads-law, breaks, below-even}
 use borrow.Author.Needs.{needs}
-use Rattle.search_page.proofs.read.Statement.{statement}
-use Rattle.search_page.proofs.read.Tie as tie
+use Rattle.search_page.proofs.read_narrow.Statement.{statement}
+use Rattle.search_page.proofs.read_narrow.Tie as tie
 
 slices-hold-below-requires : tie.Need-slices-hold-below-requires
 slices-hold-below-requires c κs = search needs
@@ -48,8 +48,8 @@ returns-3 c =
     breaks (a .table .now) (a .sieve .now) (a .query-components .now) (a .query-values .now) (a .components .now) (a .values .now)
     (sym (at-slices-hold-below .slices-hold-below .ensures) ∙ c .before .before .if1 .left) (sym (c .before .slices-hold .ensures) ∙ c .if2 .left)
 
-pub read-spec : {M : Type 1} → statement M
-read-spec =
+pub read-narrow-spec : {M : Type 1} → statement M
+read-narrow-spec =
     tie.close
     (tie.spec
     slices-hold-below-requires
