@@ -73,6 +73,12 @@ fn configuration(blocking: Blocking, summary: Summary) -> Configuration {
 /// The original's own list, as it is searched.
 pub struct Built(PostingList<u32>);
 
+/// Whether the source's prefetch fetches anything.
+pub fn turn_prefetch(on: bool) {
+    vectorium::prefetch::turn(on);
+}
+
+#[inline(never)]
 pub fn build(documents: &Documents, ids: &[u64], centroids: &[u64], blocking: Blocking, summary: Summary) -> Built {
     rand::set_centroids(&centroids.iter().map(|&c| c as usize).collect::<Vec<_>>());
     let postings: Vec<(f32, usize)> = ids.iter().map(|&i| (0.0, i as usize)).collect();
@@ -131,6 +137,14 @@ fn scored(packed: u64, score: f32) -> ScoredRange<DotProduct> {
 }
 
 impl Kept {
+    /// Nothing kept yet, with room for as many starts as a list has postings, as the source makes room before it searches.
+    pub fn roomy(k: u64, postings: usize) -> Self {
+        Kept {
+            heap: KHeap::new(k as usize),
+            visited: FxHashSet::with_capacity_and_hasher(postings, Default::default()),
+        }
+    }
+
     pub fn new(k: u64, entries: &[(u64, f32)], visited: &[u64]) -> Self {
         let mut heap = KHeap::new(k as usize);
         for &(p, s) in entries {
@@ -164,6 +178,7 @@ pub fn evaluator<'a>(documents: &Documents, query_components: &[u32], query_valu
 }
 
 #[allow(clippy::too_many_arguments)]
+#[inline(never)]
 pub fn search<'a>(
     list: &Built,
     documents: &'a Documents,

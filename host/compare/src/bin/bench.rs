@@ -1,11 +1,17 @@
-//! bench [SECONDS [growth]]: the original and the proved functions in one run, same driver, same inputs, as ratios ours / original;
-//! results must be equal before a time counts. `growth` shows how the times grow from 1,000 to 100,000 postings.
-//! A build's time has the allocation of its buffers in it, on both sides. Visit bytes and kept buffers are cleared before each search,
-//! outside the time.
+//! bench [SECONDS [SIZE ..]]: the original and the proved functions in one run, on the same inputs, as ratios ours / original; results
+//! must be equal before a time counts.
+//! bench instructions SIZE: one build and one search of each kind on both sides, for callgrind.
+//!
+//! The original is the source as it stands, its ties as document 01 has them, on stand-ins for the crates it uses; a search is timed once
+//! without and once with the fetching ahead that it asks for. What is inside the time is the same on both sides: of a build the
+//! allocation of all buffers; of a search the query laid out and no allocation of anything that a host keeps from query to query (kept
+//! list, visited starts, block scores). The sides take turns, and the first turn of each three goes round; a time is the median of the
+//! turns. Each turn has a query of its own. Before a warm turn nothing is done: the pages are where the last turns left them. Before a
+//! cold one each cache line of the listed pages is thrown out of all caches, on each side.
 #[cfg(source)]
 mod sides {
     use compare::cases::Random;
-    use compare::model::{start_of, Documents, Found, List, SearchBuffers, SearchInput};
+    use compare::model::{length_of, start_of, Documents, Found, List, SearchBuffers, SearchInput};
     use compare::ours;
     use std::time::Instant;
 
@@ -17,6 +23,8 @@ mod sides {
     const ENERGY: f32 = 0.4;
     const FACTOR: f32 = 0.8;
     const QUERY_TERMS: u64 = 43;
+    const FEWEST_TURNS: usize = 5;
+    pub const SIZES: &[u64] = &[10, 100, 1_000, 3_500, 10_000, 20_000, 100_000];
 
     /// Terms that are common like words are: the n-th most frequent has a share of about 1 / n.
     fn vector(r: &mut Random, terms: u64) -> Vec<(u32, f32)> {
@@ -37,9 +45,9 @@ mod sides {
         theirs: original::Documents,
     }
 
-    fn store(r: &mut Random) -> Store {
+    fn store(r: &mut Random, documents: u64) -> Store {
         let mut d = Documents { offsets: vec![0], ..Default::default() };
-        for _ in 0..DOCUMENTS {
+        for _ in 0..documents {
             let m = 76 + r.below(81);
             for (c, v) in vector(r, m) {
                 d.components.push(c);
@@ -47,9 +55,19 @@ mod sides {
             }
             d.offsets.push(d.components.len() as u64);
         }
-        println!("{DOCUMENTS} documents, {} terms, dimension {DIMENSION}", d.components.len());
+        println!("{documents} documents, {} terms, dimension {DIMENSION}", d.components.len());
         let theirs = original::Documents::new(DIMENSION as usize, &d.offsets, &d.components, &d.values);
         Store { ours: d, theirs }
+    }
+
+    /// So many of the documents, each once, in random order.
+    fn listed(r: &mut Random, documents: u64, size: u64) -> Vec<u64> {
+        let mut all: Vec<u64> = (0..documents).collect();
+        for i in 0..size as usize {
+            all.swap(i, i + r.below(documents - i as u64) as usize);
+        }
+        all.truncate(size as usize);
+        all
     }
 
     fn of_original(l: original::List) -> List {
@@ -65,8 +83,18 @@ mod sides {
         }
     }
 
-    /// Seconds and result of the proved build.
-    fn our_build(s: &Store, ids: &[u64], centroids: &[u64]) -> Option<(f64, List)> {
+    fn seconds_of<T>(what: impl FnOnce() -> T) -> (f64, T) {
+        let start = Instant::now();
+        let result = what();
+        (start.elapsed().as_secs_f64(), result)
+    }
+
+    fn median(times: &mut [f64]) -> f64 {
+        times.sort_unstable_by(f64::total_cmp);
+        times[times.len() / 2]
+    }
+
+    fn our_build(s: &Store, ids: &[u64], centroids: &[u64]) -> (f64, List) {
         use merino::*;
         let documents = merino::Documents { offsets: &s.ours.offsets, components: &s.ours.components, values: &s.ours.values };
         let configuration = Configuration {
@@ -77,9 +105,7 @@ mod sides {
             },
             summarization: SummarizationStrategy::EnergyPreserving { summary_energy: ENERGY },
         };
-        let start = Instant::now();
-        let l = PostingList::build(documents, DIMENSION, ids, centroids, &configuration).unwrap();
-        let took = start.elapsed().as_secs_f64();
+        let (took, l) = seconds_of(|| PostingList::build(documents, DIMENSION, ids, centroids, &configuration).unwrap());
         let list = List {
             postings: l.postings,
             block_offsets: l.block_offsets,
@@ -90,39 +116,34 @@ mod sides {
             minimums: l.minimums,
             steps: l.steps,
         };
-        Some((took, list))
+        (took, list)
     }
 
     fn their_build(s: &Store, ids: &[u64], centroids: &[u64]) -> (f64, original::Built) {
         let blocking = original::Blocking::Approximate { fraction: FRACTION, minimum: MINIMUM, cut: CUT };
-        let start = Instant::now();
-        let built = original::build(&s.theirs, ids, centroids, blocking, original::Summary::Energy { share: ENERGY });
-        (start.elapsed().as_secs_f64(), built)
+        seconds_of(|| original::build(&s.theirs, ids, centroids, blocking, original::Summary::Energy { share: ENERGY }))
     }
 
     /// Builds a list of so many postings on both sides, turn about, until the seconds are over.
     fn build(r: &mut Random, s: &Store, size: u64, seconds: f64) -> (List, original::Built) {
-        let ids: Vec<u64> = (0..size).map(|_| r.below(DOCUMENTS)).collect();
+        let documents = s.ours.offsets.len() as u64 - 1;
+        let ids = listed(r, documents, size);
         let count = compare::model::centroid_count(compare::slips::Slip::None, FRACTION, ids.len());
         let centroids: Vec<u64> = (0..count).map(|_| r.pick(&ids)).collect();
-        let (mut ours, mut theirs, mut rounds) = (0.0, 0.0, 0);
+        let (mut ours, mut theirs) = (vec![], vec![]);
         let begun = Instant::now();
         loop {
+            let first = if ours.len() % 2 == 0 { Some(our_build(s, &ids, &centroids)) } else { None };
             let (t, built) = their_build(s, &ids, &centroids);
+            theirs.push(t);
+            let (t, l) = first.unwrap_or_else(|| our_build(s, &ids, &centroids));
+            ours.push(t);
             let list = of_original(built.list());
-            theirs += t;
-            if let Some((t, l)) = our_build(s, &ids, &centroids) {
-                assert!(compare::any::same_output(&l, &list), "the two builds differ");
-                ours += t;
-            }
-            rounds += 1;
-            if begun.elapsed().as_secs_f64() >= seconds && rounds >= 3 {
-                let (a, b) = (ours / rounds as f64 * 1e3, theirs / rounds as f64 * 1e3);
+            assert!(compare::any::same_output(&l, &list), "the two builds differ");
+            if begun.elapsed().as_secs_f64() >= seconds && ours.len() >= FEWEST_TURNS {
+                let (a, b) = (median(&mut ours) * 1e3, median(&mut theirs) * 1e3);
                 println!("{size} postings, {} blocks, {} entries", list.minimums.len(), list.summary_ids.len());
-                match ours > 0.0 {
-                    true => println!("  build         : ours {a:>8.1} ms, original {b:>8.1} ms, ratio {:.2}", a / b),
-                    false => println!("  build         : original {b:>8.1} ms; the library has no build yet"),
-                }
+                println!("  build              : ours {a:>9.3} ms, original {b:>9.3} ms, ratio {:.2}  ({} turns)", a / b, ours.len());
                 return (list, built);
             }
         }
@@ -134,80 +155,189 @@ mod sides {
             && found.iter().enumerate().all(|(i, e)| e.0 == b.packed[i] && e.1.to_bits() == b.kept_scores[i].to_bits())
     }
 
-    /// Searches with other queries each time, both sides turn about.
-    fn search(r: &mut Random, s: &Store, list: &List, built: &original::Built, k: u64, sorted: bool, seconds: f64) {
-        let mut input = SearchInput {
-            query_components: vec![],
-            query_values: vec![],
-            k,
-            factor: FACTOR,
-            components: s.ours.components.clone(),
-            values: s.ours.values.clone(),
-            list: list.clone(),
-            sorted,
-        };
-        let mut b = SearchBuffers {
-            length: 0,
-            packed: vec![0; k as usize],
-            kept_scores: vec![0.0; k as usize],
-            visits: vec![0; s.ours.components.len() + 1],
-            block_scores: vec![0.0; list.minimums.len()],
-            block_order: vec![0; list.minimums.len()],
-        };
-        let (mut ours, mut theirs, mut rounds) = (0.0, 0.0, 0);
-        let (mut evaluated, mut skipped) = (0, 0);
-        let begun = Instant::now();
-        while begun.elapsed().as_secs_f64() < seconds || rounds < 3 {
-            let q = vector(r, QUERY_TERMS);
-            input.query_components = q.iter().map(|t| t.0).collect();
-            input.query_values = q.iter().map(|t| t.1).collect();
-            b.length = 0;
-            list.postings.iter().for_each(|p| b.visits[start_of(*p) as usize] = 0);
-            let (answer, t) = ours::timed_search(&input, &mut b);
-            ours += t;
-            let start = Instant::now();
-            let mut kept = original::Kept::new(k, &[], &[]);
-            let mut evaluator = original::evaluator(&s.theirs, &input.query_components, &input.query_values);
-            original::search(built, &s.theirs, &mut evaluator, &input.query_components, &input.query_values, k, FACTOR, &mut kept, sorted);
-            theirs += start.elapsed().as_secs_f64();
-            assert!(kept_equal(&kept, &b), "the two searches differ");
-            if let Found::Done { evaluated: e, skipped: s, .. } = answer {
-                evaluated += e;
-                skipped += s;
-            }
-            rounds += 1;
+    fn range_of(packed: u64) -> std::ops::Range<usize> {
+        start_of(packed) as usize..(start_of(packed) + length_of(packed)) as usize
+    }
+
+    #[derive(Clone, Copy)]
+    struct Kind {
+        k: u64,
+        sorted: bool,
+        cold: bool,
+    }
+
+    /// One search on both sides, the original's without and with its prefetch.
+    struct Searching<'a> {
+        s: &'a Store,
+        built: &'a original::Built,
+        input: SearchInput,
+        buffers: SearchBuffers,
+        kind: Kind,
+    }
+
+    impl<'a> Searching<'a> {
+        fn new(s: &'a Store, list: &List, built: &'a original::Built, kind: Kind) -> Self {
+            let input = SearchInput {
+                query_components: vec![],
+                query_values: vec![],
+                k: kind.k,
+                factor: FACTOR,
+                components: s.ours.components.clone(),
+                values: s.ours.values.clone(),
+                list: list.clone(),
+                sorted: kind.sorted,
+            };
+            let buffers = SearchBuffers {
+                length: 0,
+                packed: vec![0; kind.k as usize],
+                kept_scores: vec![0.0; kind.k as usize],
+                visits: vec![0; s.ours.components.len() + 1],
+                block_scores: vec![0.0; list.minimums.len()],
+                block_order: vec![0; list.minimums.len()],
+            };
+            Searching { s, built, input, buffers, kind }
         }
-        let (a, b) = (ours / rounds as f64 * 1e6, theirs / rounds as f64 * 1e6);
-        let name = if sorted { "sorted" } else { "plain " };
+
+        fn ask(&mut self, r: &mut Random) {
+            let q = vector(r, QUERY_TERMS);
+            self.input.query_components = q.iter().map(|t| t.0).collect();
+            self.input.query_values = q.iter().map(|t| t.1).collect();
+        }
+
+        fn ours(&mut self) -> (f64, Found) {
+            self.buffers.length = 0;
+            let visits = &mut self.buffers.visits;
+            self.input.list.postings.iter().for_each(|p| visits[start_of(*p) as usize] = 0);
+            if self.kind.cold {
+                self.input.list.postings.iter().for_each(|p| {
+                    let range = range_of(*p);
+                    cold::throw_out(&self.input.components[range.clone()]);
+                    cold::throw_out(&self.input.values[range.clone()]);
+                    cold::throw_out(&visits[range.start..=range.start]);
+                });
+            }
+            let (found, took) = ours::timed_search(&self.input, &mut self.buffers);
+            (took, found)
+        }
+
+        fn theirs(&self, prefetch: bool) -> (f64, original::Kept) {
+            let q = &self.input;
+            original::turn_prefetch(prefetch);
+            let mut kept = original::Kept::roomy(q.k, q.list.postings.len());
+            if self.kind.cold {
+                let d = &self.s.theirs.0;
+                q.list.postings.iter().for_each(|p| {
+                    let range = range_of(*p);
+                    cold::throw_out(&d.components[range.clone()]);
+                    cold::throw_out(&d.values[range]);
+                });
+            }
+            let (took, ()) = seconds_of(|| {
+                let mut evaluator = original::evaluator(&self.s.theirs, &q.query_components, &q.query_values);
+                original::search(self.built, &self.s.theirs, &mut evaluator, &q.query_components, &q.query_values, q.k, q.factor, &mut kept, q.sorted)
+            });
+            (took, kept)
+        }
+    }
+
+    /// Searches with other queries each time, the sides turn about.
+    fn search(r: &mut Random, s: &Store, list: &List, built: &original::Built, kind: Kind, seconds: f64) {
+        let mut side = Searching::new(s, list, built, kind);
+        let mut times: [Vec<f64>; 3] = Default::default();
+        let (mut evaluated, mut skipped, mut round) = (0, 0, 0);
+        let begun = Instant::now();
+        while begun.elapsed().as_secs_f64() < seconds || round < FEWEST_TURNS {
+            side.ask(r);
+            let mut kept = vec![];
+            for turn in 0..3 {
+                let which = (turn + round) % 3;
+                if which == 0 {
+                    let (t, found) = side.ours();
+                    times[0].push(t);
+                    if let Found::Done { evaluated: e, skipped: s, .. } = found {
+                        evaluated += e;
+                        skipped += s;
+                    }
+                } else {
+                    let (t, k) = side.theirs(which == 2);
+                    times[which].push(t);
+                    kept.push(k);
+                }
+            }
+            assert!(kept.iter().all(|k| kept_equal(k, &side.buffers)), "the searches differ");
+            round += 1;
+        }
+        let turns = times[0].len() as u64;
+        let [a, b, c] = times.map(|mut t| median(&mut t) * 1e6);
         println!(
-            "  k {k:>5} {name}: ours {a:>8.1} us, original {b:>8.1} us, ratio {:.2}  ({} evaluated, {} skipped)",
+            "  k {:>5} {} {}: ours {a:>9.1} us, original {b:>9.1} us, with prefetch {c:>9.1} us, ratios {:.2} {:.2}  ({} evaluated, {} skipped, {turns} turns)",
+            kind.k,
+            if kind.sorted { "sorted" } else { "plain " },
+            if kind.cold { "cold" } else { "warm" },
             a / b,
-            evaluated / rounds,
-            skipped / rounds
+            a / c,
+            evaluated / turns,
+            skipped / turns
         );
     }
 
-    pub fn run(seconds: f64, sizes: &[u64], ks: &[u64]) {
+    pub fn run(seconds: f64, sizes: &[u64]) {
         let mut r = Random::new(7);
-        let s = store(&mut r);
+        let s = store(&mut r, DOCUMENTS);
         for &size in sizes {
             let (list, built) = build(&mut r, &s, size, seconds);
-            for &k in ks {
+            for k in [10, 1_000] {
                 for sorted in [false, true] {
-                    search(&mut r, &s, &list, &built, k, sorted, seconds);
+                    for cold in [false, true] {
+                        search(&mut r, &s, &list, &built, Kind { k, sorted, cold }, seconds);
+                    }
                 }
             }
         }
+    }
+
+    /// Each side's work once, under names that a profile shows: `merino_build`, `merino_search`, `original::plain::build` and `search`.
+    pub fn instructions(size: u64) {
+        let mut r = Random::new(7);
+        let s = store(&mut r, size.max(10_000));
+        let (list, built) = build(&mut r, &s, size, 0.0);
+        for k in [10, 1_000] {
+            for sorted in [false, true] {
+                let mut side = Searching::new(&s, &list, &built, Kind { k, sorted, cold: false });
+                side.ask(&mut r);
+                side.ours();
+                assert!(kept_equal(&side.theirs(true).1, &side.buffers), "the searches differ");
+            }
+        }
+    }
+
+    mod cold {
+        /// Throws each cache line of a slice out of all caches.
+        #[cfg(target_arch = "x86_64")]
+        pub fn throw_out<T>(slice: &[T]) {
+            let end = slice.as_ptr() as usize + std::mem::size_of_val(slice);
+            let mut at = slice.as_ptr() as usize / 64 * 64;
+            while at < end {
+                // sound: the line has some of the slice in it
+                unsafe { std::arch::x86_64::_mm_clflush(at as *const u8) };
+                at += 64;
+            }
+        }
+
+        #[cfg(not(target_arch = "x86_64"))]
+        pub fn throw_out<T>(_: &[T]) {}
     }
 }
 
 #[cfg(source)]
 fn main() {
-    let seconds: f64 = std::env::args().nth(1).map_or(1.0, |s| s.parse().unwrap());
-    match std::env::args().nth(2) {
-        None => sides::run(seconds, &[3_500, 10_000, 20_000], &[10, 1_000]),
-        Some(_) => sides::run(seconds, &[1_000, 3_000, 10_000, 30_000, 100_000], &[10]),
+    let words: Vec<String> = std::env::args().skip(1).collect();
+    if words.first().is_some_and(|w| w == "instructions") {
+        return sides::instructions(words[1].parse().unwrap());
     }
+    let seconds: f64 = words.first().map_or(1.0, |s| s.parse().unwrap());
+    let sizes: Vec<u64> = words.iter().skip(1).map(|s| s.parse().unwrap()).collect();
+    sides::run(seconds, if sizes.is_empty() { sides::SIZES } else { &sizes });
 }
 
 #[cfg(not(source))]

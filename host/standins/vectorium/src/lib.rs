@@ -223,6 +223,49 @@ impl<C: ComponentType, V: ValueType> vector_encoder::SparseDataEncoder
 }
 impl<C: ComponentType, V: ValueType> SparseVectorEncoder for PlainSparseQuantizer<C, V, DotProduct> {}
 
+// ---- prefetching
+/// What the source asks for before it reads a range: each cache line of the range's components and values is fetched ahead. It is off
+/// until it is turned on, and does nothing on a machine that is not x86-64.
+pub mod prefetch {
+    use std::sync::atomic::{AtomicBool, Ordering};
+
+    static ON: AtomicBool = AtomicBool::new(false);
+    const LINE: usize = 64;
+
+    pub fn turn(on: bool) {
+        ON.store(on, Ordering::Relaxed);
+    }
+
+    #[inline]
+    pub fn is_on() -> bool {
+        ON.load(Ordering::Relaxed)
+    }
+
+    /// One fetch for each line in which some of the slice lies.
+    #[inline]
+    pub fn lines<T>(slice: &[T]) {
+        let first = slice.as_ptr() as usize / LINE * LINE;
+        let end = slice.as_ptr() as usize + std::mem::size_of_val(slice);
+        let mut at = first;
+        while at < end {
+            line(at);
+            at += LINE;
+        }
+    }
+
+    #[cfg(target_arch = "x86_64")]
+    #[inline]
+    fn line(at: usize) {
+        use std::arch::x86_64::{_mm_prefetch, _MM_HINT_T0};
+        // sound: a prefetch reads nothing, whatever the address
+        unsafe { _mm_prefetch::<_MM_HINT_T0>(at as *const i8) }
+    }
+
+    #[cfg(not(target_arch = "x86_64"))]
+    #[inline]
+    fn line(_: usize) {}
+}
+
 // ---- datasets
 pub trait Dataset {
     type Encoder: VectorEncoder;
@@ -236,7 +279,7 @@ pub trait Dataset {
     fn get(&self, id: u64) -> <Self::Encoder as VectorEncoder>::EncodedVector<'_>;
     fn range_from_id(&self, id: u64) -> Range<usize>;
     fn get_with_range(&self, range: Range<usize>) -> <Self::Encoder as VectorEncoder>::EncodedVector<'_>;
-    fn prefetch_with_range(&self, _: Range<usize>) {}
+    fn prefetch_with_range(&self, range: Range<usize>);
     fn iter<'a>(&'a self) -> impl Iterator<Item = <Self::Encoder as VectorEncoder>::EncodedVector<'a>>
     where
         Self: 'a,
@@ -289,6 +332,13 @@ macro_rules! sparse_dataset {
             #[inline]
             fn get_with_range(&self, range: Range<usize>) -> <E as VectorEncoder>::EncodedVector<'_> {
                 SparseVectorView::new(&self.components[range.clone()], &self.values[range])
+            }
+            #[inline]
+            fn prefetch_with_range(&self, range: Range<usize>) {
+                if prefetch::is_on() {
+                    prefetch::lines(&self.components[range.clone()]);
+                    prefetch::lines(&self.values[range]);
+                }
             }
         }
         impl<E: vector_encoder::SparseDataEncoder> SparseData for $name<E> {}
