@@ -1,3 +1,4 @@
 pub mod ExchangeLaws
 pub mod InsertionLaws
 pub mod QuickLaws
+pub mod ReverseLaws
