@@ -1,12 +1,10 @@
 -- `cluster_nearest::largest_keys` meets its contract.
 use Rattle.documents.specs.Documents.{documents, terms}
-use Rattle.documents.specs.TermKeys.{termOf}
-use Rattle.cluster_nearest.specs.Keys.{keysOf}
+use Rattle.cluster_nearest.specs.Keys.{KeysLeft}
 use Rattle.cluster_nearest.specs.Laws.Keys.{held-terms, largest-keys}
-use mathlib.Core.Path.{_≡_, sym, ap, _∙_}
-use mathlib.Core.List.{map}
+use mathlib.Core.Path.{_≡_, sym, ap, _∙_, subst}
 use Prim.Native.Nat.{min}
-use lib.ListN.{length, take}
+use lib.ListN.{length}
 use borrow.Author.Needs.{needs}
 use Rattle.cluster_nearest.proofs.largest_keys.Statement.{statement}
 use Rattle.cluster_nearest.proofs.largest_keys.Tie as tie
@@ -57,13 +55,14 @@ returns c =
     let a = start .args in let s = at-sort-keys .sort-keys in let m = c .shorter in let h = at-places-of .places-of .ensures .holds in
     let d = documents (a .offsets .now) (a .components .now) (a .values .now) in
     let ts = terms d (a .id .0) in
-    let keys : s .last .1 .1 .0 ≡ keysOf (a .keys .now) ts = s .ensures .1 ∙ ap (keysOf (a .keys .now)) (sym h) in
+    let left = s .last .1 .1 .1 .0 in
+    let keys : KeysLeft (a .cut) ts (a .keys .now) left = subst (λ l. KeysLeft (a .cut) l (a .keys .now) left) (sym h) (s .ensures .1) in
     let n : s .result ≡ min (length ts) (length (a .keys .now)) = s .ensures .0 ∙ ap (λ l. min (length l) (length (a .keys .now))) (sym h) in
     let held = held-terms d (a .id .0) (λ k. at-shared-slice-known2 .shared-slice-known2 .given k .fits) (λ k. at-shared-slice-known3 .shared-slice-known3 .given k) in (
       keys,
       (
         m .ensures ∙ ap (min (a .cut)) n,
-        ap (λ l. map termOf (take (m .result) l)) keys ∙ largest-keys ts held (a .keys .now) (a .cut) (s .result) (m .result) n (m .ensures),
+        largest-keys ts held (a .keys .now) left (a .cut) (s .result) (m .result) keys (s .kept .1 .1 .1 .0) n (m .ensures),
       ),
     )
 

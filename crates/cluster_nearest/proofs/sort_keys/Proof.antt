@@ -21,14 +21,14 @@ term-count-requires c κs = search needs
 shorter-requires : tie.Need-shorter-requires
 shorter-requires c κs = search needs
 
-slice-relend-prefix-sort : tie.Need-slice-relend-prefix-sort
-slice-relend-prefix-sort c = search needs
+slice-relend-prefix-sort-front : tie.Need-slice-relend-prefix-sort-front
+slice-relend-prefix-sort-front c = search needs
 
-slice-aggregate-sort : tie.Need-slice-aggregate-sort
-slice-aggregate-sort c = sym (length-take-le (c .before .shorter .result) (c .before .before .before .before .before .write-keys .last .1 .1 .0) (omega (arith, c .before .shorter .ensures)))
+slice-aggregate-sort-front : tie.Need-slice-aggregate-sort-front
+slice-aggregate-sort-front c = sym (length-take-le (c .before .shorter .result) (c .before .before .before .before .before .write-keys .last .1 .1 .0) (omega (arith, c .before .shorter .ensures)))
 
-sort-requires : tie.Need-sort-requires
-sort-requires c κs = search needs
+sort-front-requires : tie.Need-sort-front-requires
+sort-front-requires c κs = search needs
 
 same-length : tie.Need-same-length
 same-length c = search needs
@@ -47,8 +47,8 @@ returns c =
       e,
       keys-sorted (paired (a .components .now) (a .values .now))
           (held-paired (a .components .now) (a .values .now) (λ k. at-shared-slice-known .shared-slice-known .given k .fits)
-          (λ k. at-shared-slice-known2 .shared-slice-known2 .given k)) (a .keys .now) (w .last .1 .1 .0) (c .before .before .sort .last .0) (at-shorter .shorter .result) e
-          (w .ensures) (c .before .before .sort .ensures),
+          (λ k. at-shared-slice-known2 .shared-slice-known2 .given k)) (a .cut) (a .keys .now) (w .last .1 .1 .0) (c .before .before .sort-front .last .0) (at-shorter .shorter .result) e
+          (w .ensures) (c .before .before .sort-front .ensures .0) (c .before .before .sort-front .ensures .1),
     )
 
 pub sort-keys-spec : {M : Type 1} → statement M
@@ -58,8 +58,8 @@ sort-keys-spec =
     write-keys-requires
     term-count-requires
     shorter-requires
-    slice-relend-prefix-sort
-    slice-aggregate-sort
-    sort-requires
+    slice-relend-prefix-sort-front
+    slice-aggregate-sort-front
+    sort-front-requires
     same-length
     returns)

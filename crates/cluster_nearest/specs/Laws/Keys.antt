@@ -4,24 +4,24 @@ use native.Mathlib.Omega.{arith}
 use native.Mathlib.Numerals.{add-one}
 use native.Mathlib.Decide.{decLe}
 use mathlib.Core.Path.{_≡_, refl, sym, ap, _∙_, subst}
-use mathlib.Core.Bool.{Bool, true, false, cond}
-use mathlib.Core.List.{List, [], _∷_, _++_, map, append-assoc}
-use lib.ListN.{length, getD, set, take, drop, length-map, length-append, length-take}
-use lib.Seq.{sets, take-at, drop-at, set-at, take-all, take-append-le}
+use mathlib.Core.List.{List, [], _∷_, _++_, map, append-assoc, append-nil}
+use lib.ListN.{length, getD, set, take, drop, length-map, length-append, length-take, drop-of-length-le}
+use lib.Seq.{sets, take-at, drop-at, set-at, take-all, take-take}
 use lib.Dec.{T}
 use lib.Ieee.{Float, nan, binary32, fits}
-use Rattle.sequences.specs.Lists.{EachOf, insertBy, sortedBy}
+use Rattle.sequences.specs.Lists.{EachOf, sortedBy}
 use Rattle.sequences.specs.Laws.Sorted.{each-sortedBy}
 use Rattle.sequences.specs.Laws.Each.{each-take, each-drop}
 use Rattle.sequences.specs.Laws.Lists.{take-map}
 use Rattle.sort.specs.Sorted.{sorted}
+use Rattle.sort.specs.Laws.Insert.{length-sorted}
 use Rattle.sort.specs.Laws.Keys.{sorted-keys}
 use Rattle.documents.specs.Documents.{Term, term, paired, Documents, start, size, terms, greaterFirst, falling, largest}
 use Rattle.documents.specs.TermKeys.{termKey, termOf}
 use Rattle.documents.specs.Laws.TermKeys.{Held, term-key-order, term-back, held-paired}
 use Rattle.documents.specs.Laws.Places.{terms-part}
 use Rattle.cluster_index.specs.Laws.Walks.{walk-step}
-use Rattle.cluster_nearest.specs.Keys.{keysOf}
+use Rattle.cluster_nearest.specs.Keys.{KeysLeft}
 
 -- ---- keys written one after another
 pub write-step : (cs : List ℕ) (vs : List Float) (ks ns : List ℕ) (i k : ℕ) → i < length cs → i < length vs → k ≡ termKey (term (getD cs i 0) (getD vs i nan)) → ns ≡ set ks i k
@@ -65,11 +65,28 @@ held-terms d i f g =
     subst (EachOf Held) (sym (terms-part d i))
     (each-take Held (size d i) (drop (start d i) (paired (d .components) (d .values))) (each-drop Held (start d i) (paired (d .components) (d .values)) (held-paired (d .components) (d .values) f g)))
 
--- ---- keys written and sorted
-pub keys-sorted : (ts : List Term) → EachOf Held ts → (keys copied done : List ℕ) (m : ℕ) → m ≡ min (length ts) (length keys) → copied ≡ sets keys 0 (map termKey ts) → done ≡ sorted (take m copied)
-    → done ++ drop m copied ≡ keysOf keys ts
-unfolding falling
-keys-sorted ts held keys copied done m e c s =
+-- ---- keys laid over the front of a slice, as many as find a place
+over-taken : (n : ℕ) (front keys : List ℕ) → length front ≡ min n (length keys) → take n (front ++ drop n keys) ≡ front
+over-taken n front keys e = go (decLe n (length keys))
+  where
+    go : Dec (n ≤ length keys) → take n (front ++ drop n keys) ≡ front
+    go (yes h) = take-at front (drop n keys) n (omega arith)
+    go (no h) = ap (λ l. take n (front ++ l)) (drop-of-length-le keys {i = n} (omega arith)) ∙ ap (take n) (append-nil front) ∙ take-all n front (omega arith)
+
+over-past : (n : ℕ) (front keys : List ℕ) → length front ≡ min n (length keys) → drop n (front ++ drop n keys) ≡ drop n keys
+over-past n front keys e = go (decLe n (length keys))
+  where
+    go : Dec (n ≤ length keys) → drop n (front ++ drop n keys) ≡ drop n keys
+    go (yes h) = drop-at front (drop n keys) n (omega arith)
+    go (no h) =
+        let z : drop n keys ≡ [] = drop-of-length-le keys {i = n} (omega arith) in
+        ap (λ l. drop n (front ++ l)) z ∙ drop-of-length-le (front ++ []) {i = n} (omega (arith, length-append front [])) ∙ sym z
+
+-- ---- keys written and sorted as far as the cut
+pub keys-sorted : (ts : List Term) → EachOf Held ts → (cut : ℕ) (keys copied done : List ℕ) (m : ℕ) → m ≡ min (length ts) (length keys) → copied ≡ sets keys 0 (map termKey ts)
+    → take cut done ≡ take cut (sorted (take m copied)) → sorted done ≡ sorted (take m copied) → KeysLeft cut ts keys (done ++ drop m copied)
+unfolding falling largest
+keys-sorted ts held cut keys copied done m e c s t =
     let F = take (length keys) (map termKey ts) in
     let f : F ≡ map termKey (take (length keys) ts) = take-map termKey (length keys) ts in
     let n : length (map termKey ts) ≡ length ts = length-map ts termKey in
@@ -79,26 +96,19 @@ keys-sorted ts held keys copied done m e c s =
     ap (λ x. sorted (take m x)) w ∙ ap sorted (take-at F (drop (length ts) keys) m l ∙ f)
     ∙ sorted-keys greaterFirst Held termKey term-key-order (take (length keys) ts) (each-take Held (length keys) ts held) in
     let D : drop m copied ≡ drop (length ts) keys = ap (drop m) w ∙ drop-at F (drop (length ts) keys) m l in
-    (λ j. (s ∙ S) j ++ D j)
+    let k : length done ≡ min (length ts) (length keys) = sym (length-sorted done) ∙ ap length t ∙ length-sorted (take m copied)
+    ∙ ap (λ x. length (take m x)) w ∙ ap length (take-at F (drop (length ts) keys) m l) ∙ l ∙ e in
+    let T : take (length ts) (done ++ drop m copied) ≡ done = ap (λ x. take (length ts) (done ++ x)) D ∙ over-taken (length ts) done keys k in
+    record {
+      front = ap (take cut) T ∙ s ∙ ap (take cut) S ∙ take-map termKey cut (sortedBy greaterFirst (take (length keys) ts));
+      every = ap sorted T ∙ t ∙ S;
+      past = ap (λ x. drop (length ts) (done ++ x)) D ∙ over-past (length ts) done keys k;
+    }
 
 -- ---- read back, those of the cut are the largest
 back : (ts : List Term) → EachOf Held ts → map termOf (map termKey ts) ≡ ts
 back [] e = refl
 back (t ∷ ts) e = let a = term-back t (e .0) in let b = back ts (e .1) in cc
-
-inserted : (t : Term) (ts : List Term) → length (insertBy greaterFirst t ts) ≡ suc (length ts)
-unfolding insertBy
-inserted t [] = refl
-inserted t (u ∷ ts) = go (greaterFirst t u) (inserted t ts)
-  where
-    go : (b : Bool) → length (insertBy greaterFirst t ts) ≡ suc (length ts) → length (cond b (t ∷ u ∷ ts) (u ∷ insertBy greaterFirst t ts)) ≡ suc (suc (length ts))
-    go true e = refl
-    go false e = ap suc e
-
-falling-length : (ts : List Term) → length (sortedBy greaterFirst ts) ≡ length ts
-unfolding sortedBy
-falling-length [] = refl
-falling-length (t ∷ ts) = inserted t (sortedBy greaterFirst ts) ∙ ap suc (falling-length ts)
 
 cut-at : (cut n m : ℕ) (K : List ℕ) → length K ≡ n → m ≡ min cut n → take m K ≡ take cut K
 cut-at cut n m K l f = go (decLe cut n)
@@ -107,13 +117,12 @@ cut-at cut n m K l f = go (decLe cut n)
     go (yes h) = ap (λ z. take z K) (let z : m ≡ cut = omega arith in z)
     go (no h) = take-all m K (omega arith) ∙ sym (take-all cut K (omega arith))
 
-pub largest-keys : (ts : List Term) → EachOf Held ts → (keys : List ℕ) (cut n m : ℕ) → n ≡ min (length ts) (length keys) → m ≡ min cut n → map termOf (take m (keysOf keys ts))
-    ≡ largest cut (take (length keys) ts)
+pub largest-keys : (ts : List Term) → EachOf Held ts → (keys left : List ℕ) (cut n m : ℕ) → KeysLeft cut ts keys left → length left ≡ length keys → n ≡ min (length ts) (length keys)
+    → m ≡ min cut n → map termOf (take m left) ≡ largest cut (take (length keys) ts)
 unfolding largest falling
-largest-keys ts held keys cut n m e f =
-    let K = map termKey (falling (take (length keys) ts)) in
-    let l : length K ≡ n = length-map (falling (take (length keys) ts)) termKey ∙ falling-length (take (length keys) ts) ∙ length-take (length keys) ts ∙ omega arith in
-    let t : take m K ≡ take cut K = cut-at cut n m K l f in
-    ap (map termOf) (take-append-le m K (drop (length ts) keys) (omega arith) ∙ t ∙ take-map termKey cut (falling (take (length keys) ts)))
+largest-keys ts held keys left cut n m k e f g =
+    let l : length (take (length ts) left) ≡ n = length-take (length ts) left ∙ omega arith in
+    let t : take m left ≡ take cut (take (length ts) left) = sym (take-take m (length ts) left (omega arith)) ∙ cut-at cut n m (take (length ts) left) l g in
+    ap (map termOf) (t ∙ k .front)
     ∙ back (take cut (falling (take (length keys) ts))) (each-take Held cut (falling (take (length keys) ts)) (each-sortedBy greaterFirst Held (take (length keys) ts) (each-take Held (length keys) ts
     held)))
