@@ -1,3 +1,4 @@
 pub mod Loops
 pub mod Ends
 pub mod Keys
+pub mod Passed

@@ -3,15 +3,17 @@
 // assumed of the slices.
 use cells::shorter;
 ghost use mathlib.Core.Path.{_≡_};
-ghost use mathlib.Core.List.{map};
+ghost use mathlib.Core.List.{map, foldl, zipWith};
 ghost use Prim.Native.Nat.{min};
 ghost use lib.ListN.{length, take};
+ghost use lib.Ieee.{lt};
 ghost use lib.Seq.{sets};
+ghost use Rattle.sequences.specs.Lists.{every};
 ghost use Rattle.documents.specs.Documents.{documents, terms, paired, largest};
 ghost use Rattle.documents.specs.TermKeys.{termKey, termOf};
 ghost use Rattle.cluster_nearest.specs.Scored.{scoresOf};
 ghost use Rattle.cluster_nearest.specs.Keys.{KeysLeft};
-ghost use Rattle.cluster_nearest.specs.Nearest.{ifGreater, ifNoLess, firstAbove, lastNoLess};
+ghost use Rattle.cluster_nearest.specs.Nearest.{candidate, ifGreater, ifNoLess, firstAbove, lastNoLess};
 use number_types::DocumentId;
 
 // A centroid, by its document, with a document's score.
@@ -35,6 +37,10 @@ fn if_greater(best: Candidate, other: Candidate) -> Candidate
 fn if_no_less(best: Candidate, other: Candidate) -> Candidate
     ensures { λ r. ⌜ r ≡ ifNoLess best other ⌝ }
 {
+    // most are below: they are passed over by one test
+    if other.score < best.score {
+        return best;
+    }
     if float32::at_most(best.score, other.score) {
         other
     } else {
@@ -70,7 +76,43 @@ pub fn first_above_zero(centroids: &[u64], sums: &[f32]) -> DocumentId
     best.centroid
 }
 
-// The last centroid with the greatest score; another document's id where there is none.
+// The best of the best so far and some centroids, by their scores in total order: of equal ones the last.
+fn last_of(first: Candidate, centroids: &[u64], sums: &[f32]) -> Candidate
+    ensures { λ r. ⌜ r ≡ foldl ifNoLess first (zipWith candidate (now (centroids .entry)) (now (sums .entry))) ⌝ }
+{
+    let mut best = first;
+    let mut k = 0usize;
+    while k < centroids.len() {
+        if sums.len() <= k {
+            return best;
+        }
+        best = if_no_less(
+            best,
+            Candidate {
+                centroid: DocumentId(centroids[k]),
+                score: sums[k],
+            },
+        );
+        k += 1;
+    }
+    best
+}
+
+// Whether every score is below x. It looks at all of them, so that the machine takes several at once.
+fn all_below(x: f32, sums: &[f32]) -> bool
+    ensures { λ r. ⌜ r ≡ every (λ s. lt s x) (now (sums .entry)) ⌝ }
+{
+    let mut ok = true;
+    let mut i = 0usize;
+    while i < sums.len() {
+        ok = ok & (sums[i] < x);
+        i += 1;
+    }
+    ok
+}
+
+// The last centroid with the greatest score; another document's id where there is none. Sixteen scores at a time that are all below the best
+// so far are passed over at once.
 pub fn last_greatest(otherwise: DocumentId, centroids: &[u64], sums: &[f32]) -> DocumentId
     ensures { λ r. ⌜ r .0 ≡ lastNoLess (otherwise .0) (now (centroids .entry)) (now (sums .entry)) ⌝ }
 {
@@ -84,20 +126,16 @@ pub fn last_greatest(otherwise: DocumentId, centroids: &[u64], sums: &[f32]) -> 
         centroid: DocumentId(centroids[0]),
         score: sums[0],
     };
+    let n = shorter(centroids.len(), sums.len());
     let mut i = 1usize;
-    while i < centroids.len() {
-        if sums.len() <= i {
-            return best.centroid;
+    while 16 <= n - i {
+        let end = i + 16;
+        if !all_below(best.score, &sums[i..end]) {
+            best = last_of(best, &centroids[i..end], &sums[i..end]);
         }
-        best = if_no_less(
-            best,
-            Candidate {
-                centroid: DocumentId(centroids[i]),
-                score: sums[i],
-            },
-        );
-        i += 1;
+        i = end;
     }
+    best = last_of(best, &centroids[i..n], &sums[i..n]);
     best.centroid
 }
 
