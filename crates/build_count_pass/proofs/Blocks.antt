@@ -1,10 +1,11 @@
 -- One block at a time.
-use Prim.Native.Nat.{ℕ, suc, _+_}
+use Prim.Native.Nat.{ℕ, suc, _+_, _-_}
+use native.Mathlib.Omega.{arith}
 use native.Mathlib.Numerals.{add-one}
 use mathlib.Core.Path.{_≡_, refl, sym, ap, _∙_, subst}
 use mathlib.Core.Bool.{Bool, true, false, not, _&&_, cond}
 use mathlib.Core.List.{List, [], _∷_, map, foldl}
-use lib.ListN.{length, set, replicate}
+use lib.ListN.{length, set, replicate, length-replicate}
 use lib.IntN.{pos}
 use lib.Seq.{sets}
 use lib.Dec.{eqb}
@@ -22,8 +23,10 @@ use Rattle.sparse_layout.specs.Placing.{componentOf}
 use Rattle.sparse_layout.specs.Keys.{counted}
 use Rattle.sparse_layout.specs.Laws.Written.{key-components, key-values, counted-after}
 use Rattle.clearing.specs.Zeros.{zeros, floatZeros}
+use Rattle.build_kept_keys.specs.Frames.{frame, placeAfter, frames, keysOf, keptIn}
+use Rattle.build_kept_keys.specs.Laws.Frames.{frames-on}
 use Rattle.build_count_pass.specs.Counting.{noneEmpty, fullFirst, counting, minimumsOf, stepsOf, countLeft}
-use Rattle.build_count_pass.specs.Turns.{Noted, noted, notes, notesKeys, Turn, notedFrom}
+use Rattle.build_count_pass.specs.Turns.{Noted, noted, notes, notesKeys, Turn, notedFrom, Stores, storedFrom}
 
 -- ---- the terms of some keys noted
 module _ (b : ℕ) (counts ks : List ℕ) (minimums steps : List Float) where
@@ -75,6 +78,45 @@ module _ (b : ℕ) (top : List Term) (left tops : List (List Term)) (n : Noted) 
 pub rest-end : (b : ℕ) (left : List (List Term)) (n : Noted) (all : Bool) (end : Noted) → left ≡ [] → Rest b left n all end → (true ≡ all) × (n ≡ end)
 unfolding notedFrom
 rest-end b left n all end e R = subst (λ l. Rest b l n all end) e R
+
+-- ---- the store
+module _ (top : List Term) (at : ℕ) (store : List ℕ) (m : ℕ) (p : m ≡ length top) where
+  pub empty-stores : m ≡ 0 → Stores top at store at store
+  empty-stores e = let z : eqb (length top) 0 ≡ true = eq-eqb (length top) 0 (sym p ∙ e) in record { place = rw z; left = rw z }
+
+  pub counted-stores : (m ≡ 0 → ⊥) → (ks : List ℕ) → ks ≡ map termKey top → (next : ℕ) → next ≡ placeAfter at (length ks) (length store) → (store' : List ℕ) → store' ≡ sets store at (frame (length store - at) ks) → Stores top at store next store'
+  counted-stores e ks k next a store' b =
+      let z : eqb (length top) 0 ≡ false = ne-eqb (length top) 0 (λ w. e (p ∙ w)) in
+      record { place = rw z (a ∙ ap (λ k. placeAfter at (length k) (length store)) k); left = rw z (b ∙ ap (λ k. sets store at (frame (length store - at) k)) k) }
+
+-- what is left to store comes to the same as all
+module _ (at : ℕ) (top : List Term) (left tops : List (List Term)) (store end : List ℕ) (e : left ≡ top ∷ tops) (R : storedFrom at left store ≡ end) (next : ℕ) (store' : List ℕ) (s : Stores top at store next store') (r : Bool) (t : r ≡ not (eqb (length top) 0)) where
+  stored-left : (z : Bool) → eqb (length top) 0 ≡ z → sets store at (frames (length store - at) (keysOf (cond z [] (top ∷ fullFirst tops)))) ≡ end
+  stored-left z w = sym (ap (λ x. sets store at (frames (length store - at) (keysOf (cond x [] (top ∷ fullFirst tops))))) w) ∙ sym (ap (λ l. storedFrom at l store) e) ∙ R
+
+  pub store-on : not r ≡ false → storedFrom next tops store' ≡ end
+  store-on f =
+      let z : eqb (length top) 0 ≡ false = not-true (eqb (length top) 0) (sym t ∙ not-false r f) in
+      frames-on store at (map termKey top) (keysOf (fullFirst tops)) next store' (s .place ∙ ap (λ x. cond x at (placeAfter at (length (map termKey top)) (length store))) z)
+      (s .left ∙ ap (λ x. cond x store (sets store at (frame (length store - at) (map termKey top)))) z)
+      ∙ stored-left false z
+
+  pub store-stop : not r ≡ true → store' ≡ end
+  unfolding frames
+  store-stop f =
+      let z : eqb (length top) 0 ≡ true = not-false (eqb (length top) 0) (sym t ∙ not-true r f) in
+      s .left ∙ ap (λ x. cond x store (sets store at (frame (length store - at) (map termKey top)))) z ∙ stored-left true z
+
+pub store-end : (at : ℕ) (left : List (List Term)) (store end : List ℕ) → left ≡ [] → storedFrom at left store ≡ end → store ≡ end
+unfolding frames
+store-end at left store end e R = sym (ap (λ l. storedFrom at l store) e) ∙ R
+
+-- from zeros on
+pub store-all : (tops : List (List Term)) (store z end : List ℕ) → z ≡ zeros store → end ≡ storedFrom 0 tops z → end ≡ keptIn (fullFirst tops) store
+unfolding keptIn
+store-all tops store z end e q =
+    let l = length-replicate {A = ℕ} (length store) 0 in
+    q ∙ ap (storedFrom 0 tops) e ∙ ap (λ n. sets (zeros store) 0 (frames n (keysOf (fullFirst tops)))) (let w : length (zeros store) - 0 ≡ length store = omega arith in w)
 
 -- ---- all blocks
 noted-all : (b : ℕ) (tops : List (List Term)) (n : Noted)

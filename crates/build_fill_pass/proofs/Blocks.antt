@@ -1,22 +1,24 @@
 -- One block at a time.
 use Prim.Native.Nat.{ℕ, suc, _+_, _%_, min}
 use native.Mathlib.Numerals.{add-one}
-use mathlib.Core.Path.{_≡_, sym, ap, _∙_}
+use mathlib.Core.Path.{_≡_, refl, sym, ap, _∙_}
 use mathlib.Core.List.{List, [], _∷_, map}
-use lib.ListN.{length, replicate}
+use lib.ListN.{length, drop, replicate}
 use lib.IntN.{pos}
 use mathlib.Core.Bool.{false}
 use lib.Ieee.{Float, fin}
-use Rattle.sequences.specs.Lists.{EachOf}
+use Rattle.sequences.specs.Lists.{EachOf, part}
 use Rattle.documents.specs.Documents.{Term}
-use Rattle.documents.specs.TermKeys.{termKey, valueOfTerm}
+use Rattle.documents.specs.TermKeys.{termKey, valueOfTerm, termOf}
 use Rattle.documents.specs.Laws.TermKeys.{Held}
 use Rattle.quantizing.specs.declared.Extent.{Extent}
 use Rattle.quantizing.specs.Quantizing.{least, extentOf, stepOf, stepFor}
-use Rattle.sparse_layout.specs.Layouts.{values, entriesOf}
+use Rattle.sparse_layout.specs.Layouts.{values, entryOf, entriesOf}
 use Rattle.sparse_layout.specs.Keys.{keyEntry, Lent, lent, placedWithin}
 use Rattle.sparse_layout.specs.Laws.Written.{key-entries, key-values, placed-after}
 use Rattle.clearing.specs.Zeros.{zeros, floatZeros}
+use Rattle.build_kept_keys.specs.Frames.{inFront, recalledTop}
+use Rattle.build_kept_keys.specs.Laws.Frames.{none-top, frame-top}
 use Rattle.build_fill_pass.specs.Filling.{filling, numberedFrom, fillLeft, placedIn}
 use Rattle.build_fill_pass.specs.Turns.{keyEntries}
 
@@ -40,6 +42,30 @@ entries-of-keys b ts l h ks k l' e =
     e ∙ ap (λ ks. keyEntries b ks l) k
     ∙ ap (λ v. placedWithin (roomOf l) l (map (keyEntry (b % 65536) (least v) (stepFor v)) (map termKey ts))) (key-values ts h)
     ∙ ap (placedWithin (roomOf l) l) (key-entries (b % 65536) (least (values ts)) (stepFor (values ts)) ts h)
+
+-- of a frame's keys, whatever they are
+frame-values : (ks : List ℕ) → map valueOfTerm ks ≡ values (map termOf ks)
+frame-values [] = refl
+frame-values (k ∷ ks) = ap (λ l. valueOfTerm k ∷ l) (frame-values ks)
+
+frame-entries : (b : ℕ) (low step : Float) (ks : List ℕ) → map (keyEntry b low step) ks ≡ map (entryOf b low step) (map termOf ks)
+frame-entries b low step [] = refl
+frame-entries b low step (k ∷ ks) = ap (λ l. keyEntry b low step k ∷ l) (frame-entries b low step ks)
+
+entries-of-frame : (b : ℕ) (ks : List ℕ) (l : Lent) → keyEntries b ks l ≡ placedWithin (roomOf l) l (entriesOf (b % 65536) (map termOf ks))
+entries-of-frame b ks l =
+    ap (λ v. placedWithin (roomOf l) l (map (keyEntry (b % 65536) (least v) (stepFor v)) ks)) (frame-values ks)
+    ∙ ap (placedWithin (roomOf l) l) (frame-entries (b % 65536) (least (values (map termOf ks))) (stepFor (values (map termOf ks))) ks)
+
+-- ---- a block's turn: by its frame, or summarized anew where it has none
+module _ (at : ℕ) (store : List ℕ) (n : ℕ) (e : n ≡ inFront (drop at store)) (b : ℕ) (top : List Term) (l l' : Lent) where
+  pub placed-anew : n ≡ 0 → l' ≡ placedWithin (roomOf l) l (entriesOf (b % 65536) top) → l' ≡ placedWithin (roomOf l) l (entriesOf (b % 65536) (recalledTop (drop at store) top))
+  placed-anew z q = q ∙ ap (λ t. placedWithin (roomOf l) l (entriesOf (b % 65536) t)) (sym (none-top at store n e z top))
+
+  pub placed-frame : (n ≡ 0 → ⊥) → (ks : List ℕ) → ks ≡ part (at + 1) n store → l' ≡ keyEntries b ks l → l' ≡ placedWithin (roomOf l) l (entriesOf (b % 65536) (recalledTop (drop at store) top))
+  placed-frame z ks k q =
+      q ∙ ap (λ ks. keyEntries b ks l) k ∙ entries-of-frame b (part (at + 1) n store) l
+      ∙ ap (λ t. placedWithin (roomOf l) l (entriesOf (b % 65536) t)) (sym (frame-top at store n e z top))
 
 -- ---- one block after another: placing what is left comes to the same as placing all
 pub rest-on : (b n : ℕ) (top : List Term) (left tops : List (List Term)) (l end : Lent) → left ≡ top ∷ tops → roomOf l ≡ n → placedWithin n l (numberedFrom b left) ≡ end

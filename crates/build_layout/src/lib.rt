@@ -6,16 +6,17 @@ use configuration::SummarizationStrategy;
 ghost use mathlib.Core.Path.{_≡_};
 ghost use Rattle.documents.specs.Documents.{documents};
 ghost use Rattle.build_count_pass.specs.Counting.{counting};
-ghost use Rattle.build_meaning.specs.Building.{outputs, outputLengths};
+ghost use Rattle.build_meaning.specs.Building.{outputs, outputLengths, zeros};
 ghost use Rattle.build_layout.specs.Laid.{builtFrom, laidVerdict, left, leftBy};
 
 // Writes the result of a build: `order` has the list's documents in block order, and `blocks` where each block starts and where the
 // last one ends. Each output buffer has its part of the result in front, and past it nothing changes; a document whose range cannot be
 // packed counts as 0, and terms from the dimension on are left out. Refuses a dimension outside its limits or more blocks than there may
 // be (8), work space of fewer places than the dimension (4), a block whose summary is empty (7), and output too short for the result (4):
-// all output is zero then. The work space is zero either way. Each of two passes over the blocks takes time in proportion to the terms
-// of their documents, to n log n for the n components of each block, which are sorted, and to the documents, the blocks, the dimension
-// and the work space, which is cleared. A refusal takes no more than the first pass and the length of the output.
+// all output is zero then. The work space and the store are zero either way. The first of two passes over the blocks takes time in
+// proportion to the terms of their documents, to n log n for the n components of each block, which are sorted, and to the documents, the
+// blocks, the dimension, the work space and the store, which are cleared. The second takes the keys that a block keeps from the store; it
+// summarizes those blocks again whose keys found no place there. A refusal takes no more than the first pass and the length of the output.
 pub fn write(
     dimension: u64,
     strategy: SummarizationStrategy,
@@ -36,8 +37,9 @@ pub fn write(
     places: &mut [u64],
     maxima: &mut [f32],
     entry_counts: &mut [u64],
+    store: &mut [u64],
 ) -> BuildAnswer
-    ensures { λ r. ⌜ left r (outputs (now (postings .exit)) (now («block_offsets» .exit)) (now («summary_components» .exit)) (now («component_offsets» .exit))
+    ensures left { λ r. ⌜ left r (outputs (now (postings .exit)) (now («block_offsets» .exit)) (now («summary_components» .exit)) (now («component_offsets» .exit))
         (now («summary_ids» .exit)) (now (codes .exit)) (now (minimums .exit)) (now (steps .exit))) (now (keys .exit)) (now (places .exit)) (now (maxima .exit))
         (now («entry_counts» .exit)) ≡ leftBy (laidVerdict dimension strategy (documents (now (offsets .entry)) (now (components .entry)) (now (values .entry)))
         (now (order .entry)) (now (blocks .entry)) (counting (now (keys .entry)) (now (places .entry)) (now (maxima .entry)) (now («entry_counts» .entry))
@@ -46,6 +48,7 @@ pub fn write(
         (documents (now (offsets .entry)) (now (components .entry)) (now (values .entry))) (now (order .entry)) (now (blocks .entry))) (outputs (now (postings .entry))
         (now («block_offsets» .entry)) (now («summary_components» .entry)) (now («component_offsets» .entry)) (now («summary_ids» .entry)) (now (codes .entry))
         (now (minimums .entry)) (now (steps .entry))) (now (keys .entry)) (now (places .entry)) (now (maxima .entry)) (now («entry_counts» .entry)) ⌝ }
+    ensures store { λ _. ⌜ now (store .exit) ≡ zeros (now (store .entry)) ⌝ }
 {
     let lent = OutputLengths {
         postings: postings.len() as u64,
@@ -72,8 +75,9 @@ pub fn write(
         minimums,
         steps,
         lent,
+        store,
     );
-    build_output::settle(
+    let settled = build_output::settle(
         answer,
         dimension,
         strategy,
@@ -94,5 +98,8 @@ pub fn write(
         places,
         maxima,
         entry_counts,
-    )
+        store,
+    );
+    clearing::clear_u64(store);
+    settled
 }

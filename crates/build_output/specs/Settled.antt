@@ -28,7 +28,7 @@ writtenOf o = written (o .postings) (o .blockOffsets) (o .summaryComponents) (o 
 abbrev pub over : Written → Outputs → Outputs
 over w o = outputs (w .postings) (w .blockOffsets) (w .summaryComponents) (w .componentOffsets) (w .summaryIds) (w .codes) (o .minimums) (o .steps)
 
-abbrev pub settled : BuildAnswer → ℕ → SummarizationStrategy → Documents → List ℕ → List ℕ → Outputs → List ℕ → List ℕ → List Float → List ℕ → Left
-settled (answer.Refused r) dimension strategy d order blocks o k p m c = left (answer.Refused r) (clearedOutput o) (zeros k) (zeros p) (floatZeros m) (zeros c)
-settled (answer.Built z) dimension strategy d order blocks o k p m c = left (answer.Built z) (over (secondPass dimension strategy d order blocks k p m c (writtenOf o)) o) (zeros k) (zeros p)
-    (floatZeros m) (zeros c)
+abbrev pub settled : BuildAnswer → ℕ → SummarizationStrategy → Documents → List ℕ → List ℕ → List ℕ → Outputs → List ℕ → List ℕ → List Float → List ℕ → Left
+settled (answer.Refused r) dimension strategy d order blocks store o k p m c = left (answer.Refused r) (clearedOutput o) (zeros k) (zeros p) (floatZeros m) (zeros c)
+settled (answer.Built z) dimension strategy d order blocks store o k p m c = left (answer.Built z) (over (secondPass dimension strategy d order blocks store k p m c (writtenOf o)) o) (zeros k)
+    (zeros p) (floatZeros m) (zeros c)

@@ -51,9 +51,10 @@ fn write_offsets(blocks: &[u64], block_offsets: &mut [u64])
 }
 
 // Lays out the components whose counts stand in front of `entry_counts`, places the entries of the blocks' summaries, and writes the postings
-// and the block offsets. What finds no place is left out. The work space `keys`, `places`, `maxima`, `entry_counts` is zero then. It takes time
-// in proportion to the terms of the blocks' documents, to n log n for the n components of each block, which are sorted, and to the
-// documents, the blocks, the dimension and the work space, which is cleared.
+// and the block offsets. What finds no place is left out. A block's kept keys are those of its frame in the store; one that has none is
+// summarized again. The work space `keys`, `places`, `maxima`, `entry_counts` is zero then. It takes time in proportion to the keys of the
+// frames, to the terms of the other blocks' documents and n log n for the n components of each, which are sorted, and to the documents,
+// the blocks, the dimension and the work space, which is cleared.
 fn place(
     dimension: u64,
     strategy: SummarizationStrategy,
@@ -72,10 +73,11 @@ fn place(
     component_offsets: &mut [u64],
     summary_ids: &mut [u16],
     codes: &mut [u8],
+    store: &[u64],
 )
     ensures output { λ _. ⌜ written (now (postings .exit)) (now («block_offsets» .exit)) (now («summary_components» .exit)) (now («component_offsets» .exit))
         (now («summary_ids» .exit)) (now (codes .exit)) ≡ secondPass dimension strategy (documents (now (offsets .entry)) (now (components .entry)) (now (values .entry)))
-        (now (order .entry)) (now (blocks .entry)) (now (keys .entry)) (now (places .entry)) (now (maxima .entry)) (now («entry_counts» .entry))
+        (now (order .entry)) (now (blocks .entry)) (now (store .entry)) (now (keys .entry)) (now (places .entry)) (now (maxima .entry)) (now («entry_counts» .entry))
         (written (now (postings .entry)) (now («block_offsets» .entry)) (now («summary_components» .entry)) (now («component_offsets» .entry))
         (now («summary_ids» .entry)) (now (codes .entry))) ⌝ }
     ensures keys { λ _. ⌜ now (keys .exit) ≡ zeros (now (keys .entry)) ⌝ }
@@ -103,6 +105,7 @@ fn place(
         &mut entry_counts[..n],
         summary_ids,
         codes,
+        store,
     );
     clearing::clear_u64(entry_counts);
     write_postings(offsets, order, postings);
@@ -110,10 +113,11 @@ fn place(
 }
 
 // Ends a build whose entries were counted: where the first pass answered that there is room, the second writes the result, each part in
-// front of its buffer, and what finds no place is left out; where it refused, all output is cleared. The answer is the first pass's. The
-// work space is zero either way. The second pass takes time in proportion to the terms of the blocks' documents, to n log n for the n
-// components of each block, which are sorted, and to the documents, the blocks, the dimension and the work space, which is cleared. After
-// a refusal it is the lengths of the output and of the work space.
+// front of its buffer, and what finds no place is left out; where it refused, all output is cleared. The answer is the first pass's. A
+// block's kept keys are those of its frame in the store; one that has none is summarized again. The work space is zero either way. The
+// second pass takes time in proportion to the keys of the frames, to the terms of the other blocks' documents and n log n for the n
+// components of each, which are sorted, and to the documents, the blocks, the dimension and the work space, which is cleared. After a
+// refusal it is the lengths of the output and of the work space.
 pub fn settle(
     answer: BuildAnswer,
     dimension: u64,
@@ -135,11 +139,12 @@ pub fn settle(
     places: &mut [u64],
     maxima: &mut [f32],
     entry_counts: &mut [u64],
+    store: &[u64],
 ) -> BuildAnswer
     ensures { λ r. ⌜ left r (outputs (now (postings .exit)) (now («block_offsets» .exit)) (now («summary_components» .exit)) (now («component_offsets» .exit))
         (now («summary_ids» .exit)) (now (codes .exit)) (now (minimums .exit)) (now (steps .exit))) (now (keys .exit)) (now (places .exit)) (now (maxima .exit))
         (now («entry_counts» .exit)) ≡ settled answer dimension strategy (documents (now (offsets .entry)) (now (components .entry)) (now (values .entry)))
-        (now (order .entry)) (now (blocks .entry)) (outputs (now (postings .entry)) (now («block_offsets» .entry)) (now («summary_components» .entry))
+        (now (order .entry)) (now (blocks .entry)) (now (store .entry)) (outputs (now (postings .entry)) (now («block_offsets» .entry)) (now («summary_components» .entry))
         (now («component_offsets» .entry)) (now («summary_ids» .entry)) (now (codes .entry)) (now (minimums .entry)) (now (steps .entry))) (now (keys .entry))
         (now (places .entry)) (now (maxima .entry)) (now («entry_counts» .entry)) ⌝ }
 {
@@ -177,6 +182,7 @@ pub fn settle(
                 component_offsets,
                 summary_ids,
                 codes,
+                store,
             );
             BuildAnswer::Built(sizes)
         }

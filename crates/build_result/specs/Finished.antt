@@ -31,3 +31,8 @@ finishedBy (made.Offsets n) dimension s d listed o order blocks k c x t =
     o k c x t)
     (zeros order)
     (zeros blocks)
+
+-- the scratch that the keys of the blocks were stored in: zero once blocks were made, else as it was
+abbrev pub slotsBy : ListBlocks → List ℕ → List ℕ
+slotsBy (made.Refused r) slots = slots
+slotsBy (made.Offsets n) slots = zeros slots

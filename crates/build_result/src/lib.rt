@@ -8,11 +8,11 @@ ghost use mathlib.Core.Path.{_≡_};
 ghost use Rattle.documents.specs.Documents.{documents};
 ghost use Rattle.build_meaning.specs.Building.{outputs};
 ghost use Rattle.build_layout.specs.Laid.{left};
-ghost use Rattle.build_result.specs.Finished.{finished, finishedBy};
+ghost use Rattle.build_result.specs.Finished.{finished, finishedBy, slotsBy};
 
 // Writes the result of a build from the blocks that were made: the first `listed` of `order` and as many of `blocks` as there are
-// offsets; both are zero then, and so is what it works in. Where the blocks were refused all output is zero, the answer is that refusal,
-// and scratch is not touched.
+// offsets; both are zero then, and so is what it works in, `slots` too, where the keys that the blocks keep are stored. Where the blocks
+// were refused all output is zero, the answer is that refusal, and scratch is not touched.
 pub fn finish(
     made: ListBlocks,
     dimension: u64,
@@ -35,14 +35,16 @@ pub fn finish(
     starts: &mut [u64],
     sums: &mut [f32],
     keys: &mut [u64],
+    slots: &mut [u64],
 ) -> BuildAnswer
-    ensures { λ r. ⌜ finished (left r (outputs (now (postings .exit)) (now («block_offsets» .exit)) (now («summary_components» .exit)) (now («component_offsets» .exit))
+    ensures left { λ r. ⌜ finished (left r (outputs (now (postings .exit)) (now («block_offsets» .exit)) (now («summary_components» .exit)) (now («component_offsets» .exit))
         (now («summary_ids» .exit)) (now (codes .exit)) (now (minimums .exit)) (now (steps .exit)))
         (now (keys .exit)) (now (counts .exit)) (now (sums .exit)) (now (starts .exit))) (now (order .exit)) (now (blocks .exit))
         ≡ finishedBy made dimension summarization (documents (now (offsets .entry)) (now (components .entry)) (now (values .entry))) listed
         (outputs (now (postings .entry)) (now («block_offsets» .entry)) (now («summary_components» .entry)) (now («component_offsets» .entry))
         (now («summary_ids» .entry)) (now (codes .entry)) (now (minimums .entry)) (now (steps .entry)))
         (now (order .entry)) (now (blocks .entry)) (now (keys .entry)) (now (counts .entry)) (now (sums .entry)) (now (starts .entry)) ⌝ }
+    ensures slots { λ _. ⌜ now (slots .exit) ≡ slotsBy made (now (slots .entry)) ⌝ }
 {
     match made {
         ListBlocks::Refused(reason) => {
@@ -81,6 +83,7 @@ pub fn finish(
                 counts,
                 sums,
                 starts,
+                slots,
             );
             clearing::clear_u64(order);
             clearing::clear_u64(blocks);

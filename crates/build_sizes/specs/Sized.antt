@@ -24,7 +24,8 @@ use Rattle.build_meaning.specs.Built.{Built}
 use Rattle.build_meaning.specs.Needs.{Output, outputSuffices}
 use Rattle.build_meaning.specs.Building.{answerBy}
 pub use Rattle.build_block_summary.specs.Blocks.{tops}
-use Rattle.build_count_pass.specs.Counting.{noneEmpty, Counting, counting, countLeft}
+use Rattle.build_kept_keys.specs.Frames.{keptIn}
+use Rattle.build_count_pass.specs.Counting.{noneEmpty, fullFirst, Counting, counting, countLeft}
 use Rattle.build_sizes.specs.declared.OutputLengths.{OutputLengths}
 
 -- ---- the result, from the documents in block order and the block offsets
@@ -95,6 +96,14 @@ measuredBy (verdict.Refused r) dimension tops w = w
 
 abbrev pub measuredLeft : ℕ → SummarizationStrategy → Documents → List ℕ → List ℕ → Counting → Counting
 measuredLeft dimension strategy d order blocks w = measuredBy (firstOf (workFor dimension blocks w)) dimension (tops dimension strategy d order blocks) w
+
+-- the same of the store: the keys that the blocks before the first empty summary keep
+abbrev pub storedBy : Verdict → List (List Term) → List ℕ → List ℕ
+storedBy verdict.Accepted tops store = keptIn (fullFirst tops) store
+storedBy (verdict.Refused r) tops store = store
+
+abbrev pub measuredStore : ℕ → SummarizationStrategy → Documents → List ℕ → List ℕ → Counting → List ℕ → List ℕ
+measuredStore dimension strategy d order blocks w store = storedBy (firstOf (workFor dimension blocks w)) (tops dimension strategy d order blocks) store
 
 -- what the first pass answers and leaves
 pub record Measures (dimension : ℕ) (strategy : SummarizationStrategy) (d : Documents) (order blocks : List ℕ) (w : Counting) (room : Output) (r : BuildAnswer) (after : Counting) : Type 0 where

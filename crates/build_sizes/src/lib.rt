@@ -10,7 +10,7 @@ ghost use Prim.Native.Nat.{_-_};
 ghost use Rattle.documents.specs.Documents.{documents};
 ghost use Rattle.build_count_pass.specs.Counting.{counting};
 ghost use Rattle.refusal.specs.First.{firstOf};
-ghost use Rattle.build_sizes.specs.Sized.{workTests, roomOf, roomAnswer, Measures};
+ghost use Rattle.build_sizes.specs.Sized.{workTests, roomOf, roomAnswer, Measures, measuredStore};
 
 // How long each output buffer is.
 pub struct OutputLengths {
@@ -90,7 +90,7 @@ fn judge_work(
 
 // Counts the entries of a list's blocks in front of `entry_counts`, leaves each block's minimum and step, and answers with the sizes of the
 // result, or with the refusal 8, 4 (work space), 7 or 4 (output). After the first two nothing changes; terms from the dimension on are
-// left out.
+// left out. The store has the keys that the blocks keep, as `build_count_pass::count` leaves them there.
 pub fn measure(
     dimension: u64,
     strategy: SummarizationStrategy,
@@ -106,11 +106,15 @@ pub fn measure(
     minimums: &mut [f32],
     steps: &mut [f32],
     lent: OutputLengths,
+    store: &mut [u64],
 ) -> BuildAnswer
-    ensures { λ r. ⌜ Measures dimension strategy (documents (now (offsets .entry)) (now (components .entry)) (now (values .entry))) (now (order .entry))
+    ensures left { λ r. ⌜ Measures dimension strategy (documents (now (offsets .entry)) (now (components .entry)) (now (values .entry))) (now (order .entry))
         (now (blocks .entry)) (counting (now (keys .entry)) (now (places .entry)) (now (maxima .entry)) (now («entry_counts» .entry)) (now (minimums .entry))
         (now (steps .entry))) (roomOf lent) r (counting (now (keys .exit)) (now (places .exit)) (now (maxima .exit)) (now («entry_counts» .exit)) (now (minimums .exit))
         (now (steps .exit))) ⌝ }
+    ensures store { λ _. ⌜ now (store .exit) ≡ measuredStore dimension strategy (documents (now (offsets .entry)) (now (components .entry)) (now (values .entry))) (now (order .entry))
+        (now (blocks .entry)) (counting (now (keys .entry)) (now (places .entry)) (now (maxima .entry)) (now («entry_counts» .entry)) (now (minimums .entry))
+        (now (steps .entry))) (now (store .entry)) ⌝ }
 {
     let verdict = judge_work(
         dimension,
@@ -138,6 +142,7 @@ pub fn measure(
         &mut entry_counts[..n],
         minimums,
         steps,
+        store,
     );
     if !full {
         return BuildAnswer::Refused(Refusal::EmptySummary);

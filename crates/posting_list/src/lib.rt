@@ -90,5 +90,6 @@ pub fn build(
         starts,
         sums,
         keys,
+        slots,
     )
 }
