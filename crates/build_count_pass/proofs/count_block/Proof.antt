@@ -9,7 +9,7 @@ use Rattle.summary_terms.specs.Answers.{limitOf}
 use Rattle.build_block_summary.specs.Blocks.{blockAt}
 use Rattle.build_block_summary.specs.Laws.Kept.{top-held, front-keys, front-fits}
 use Rattle.build_count_pass.specs.Turns.{noted}
-use Rattle.build_count_pass.proofs.Blocks.{empty-turn, counted-turn}
+use Rattle.build_count_pass.proofs.Blocks.{empty-turn, counted-turn, empty-stores, counted-stores}
 use borrow.Author.Needs.{needs}
 use Rattle.build_count_pass.proofs.count_block.Statement.{statement}
 use Rattle.build_count_pass.proofs.count_block.Tie as tie
@@ -43,10 +43,13 @@ returns c =
     let a = start .args in
     let d = documents (a .offsets .now) (a .components .now) (a .values .now) in
     let ts = below (limitOf (a .dimension) (length (a .keys .now)) (length (a .places .now)) (length (a .maxima .now))) (blockTerms d (blockAt (a .blocks .now) (a .order .now) (a .number .0))) in
-    empty-turn (a .number .0) (summaryOf (a .strategy) ts) (noted (a .entry-counts .now) (a .minimums .now) (a .steps .now)) _ (at-summarize-block .summarize-block .ensures .answer) (c .if1 .taken)
+    let S = at-summarize-block .summarize-block .ensures in (
+      empty-turn (a .number .0) (summaryOf (a .strategy) ts) (noted (a .entry-counts .now) (a .minimums .now) (a .steps .now)) _ (S .answer) (c .if1 .taken),
+      empty-stores (summaryOf (a .strategy) ts) (a .at) (a .store .now) _ (S .answer) (c .if1 .taken),
+    )
 
-slice-reshare-prefix-note : tie.Need-slice-reshare-prefix-note
-slice-reshare-prefix-note c =
+slice-reshare-prefix-note-and-keep : tie.Need-slice-reshare-prefix-note-and-keep
+slice-reshare-prefix-note-and-keep c =
     let at-summarize-block : tie.After-summarize-block = search needs in
     let start : tie.Start = search needs in
     let a = start .args in
@@ -54,8 +57,8 @@ slice-reshare-prefix-note c =
     let ts = below (limitOf (a .dimension) (length (a .keys .now)) (length (a .places .now)) (length (a .maxima .now))) (blockTerms d (blockAt (a .blocks .now) (a .order .now) (a .number .0))) in
     front-fits (a .strategy) ts (a .keys .now) (a .places .now) (a .maxima .now) _ _ _ _ (at-summarize-block .summarize-block .ensures)
 
-slice-aggregate-note : tie.Need-slice-aggregate-note
-slice-aggregate-note c =
+slice-aggregate-note-and-keep : tie.Need-slice-aggregate-note-and-keep
+slice-aggregate-note-and-keep c =
     let at-summarize-block : tie.After-summarize-block = search needs in
     let start : tie.Start = search needs in
     let a = start .args in
@@ -63,8 +66,8 @@ slice-aggregate-note c =
     let ts = below (limitOf (a .dimension) (length (a .keys .now)) (length (a .places .now)) (length (a .maxima .now))) (blockTerms d (blockAt (a .blocks .now) (a .order .now) (a .number .0))) in
     sym (length-take-le _ _ (front-fits (a .strategy) ts (a .keys .now) (a .places .now) (a .maxima .now) _ _ _ _ (at-summarize-block .summarize-block .ensures)))
 
-note-requires : tie.Need-note-requires
-note-requires c κs = tt
+note-and-keep-requires : tie.Need-note-and-keep-requires
+note-and-keep-requires c κs = tt
 
 same-length-4 : tie.Need-same-length-4
 same-length-4 c = search needs
@@ -84,9 +87,12 @@ same-length-8 c = search needs
 same-length-9 : tie.Need-same-length-9
 same-length-9 c = search needs
 
+same-length-10 : tie.Need-same-length-10
+same-length-10 c = search needs
+
 returns-2 : tie.Need-returns-2
 returns-2 c =
-    let at-note : tie.After-note = search needs in
+    let at-note : tie.After-note-and-keep = search needs in
     let at-else1 : tie.Else1 = search needs in
     let at-summarize-block : tie.After-summarize-block = search needs in
     let components-known = components-of at-summarize-block in
@@ -96,9 +102,13 @@ returns-2 c =
     let n = limitOf (a .dimension) (length (a .keys .now)) (length (a .places .now)) (length (a .maxima .now)) in
     let block = blockAt (a .blocks .now) (a .order .now) (a .number .0) in
     let S = at-summarize-block .summarize-block .ensures in
-    counted-turn (a .number .0) (summaryOf (a .strategy) (below n (blockTerms d block))) (noted (a .entry-counts .now) (a .minimums .now) (a .steps .now)) _ (S .answer) (at-else1 .if1 .left)
-    (top-held (a .strategy) n d block (λ k. components-known .shared-slice-known2 .given k .fits) (λ k. values-known .shared-slice-known3 .given k))
-    _ (front-keys (a .strategy) (below n (blockTerms d block)) (a .keys .now) (a .places .now) (a .maxima .now) _ _ _ _ S) _ (at-note .note .ensures)
+    let k = front-keys (a .strategy) (below n (blockTerms d block)) (a .keys .now) (a .places .now) (a .maxima .now) _ _ _ _ S in
+    let N = at-note .note-and-keep in (
+      counted-turn (a .number .0) (summaryOf (a .strategy) (below n (blockTerms d block))) (noted (a .entry-counts .now) (a .minimums .now) (a .steps .now)) _ (S .answer) (at-else1 .if1 .left)
+          (top-held (a .strategy) n d block (λ k. components-known .shared-slice-known2 .given k .fits) (λ k. values-known .shared-slice-known3 .given k))
+          _ k _ (N .ensures .0),
+      counted-stores (summaryOf (a .strategy) (below n (blockTerms d block))) (a .at) (a .store .now) _ (S .answer) (at-else1 .if1 .left) _ k (N .result) (N .ensures .1 .0) _ (N .ensures .1 .1),
+    )
 
 pub count-block-spec : {M : Type 1} → statement M
 count-block-spec =
@@ -109,13 +119,14 @@ count-block-spec =
     same-length-2
     same-length-3
     returns
-    slice-reshare-prefix-note
-    slice-aggregate-note
-    note-requires
+    slice-reshare-prefix-note-and-keep
+    slice-aggregate-note-and-keep
+    note-and-keep-requires
     same-length-4
     same-length-5
     same-length-6
     same-length-7
     same-length-8
     same-length-9
+    same-length-10
     returns-2)
