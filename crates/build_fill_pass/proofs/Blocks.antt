@@ -1,5 +1,6 @@
 -- One block at a time.
-use Prim.Native.Nat.{ℕ, suc, _+_, _%_, min}
+use Prim.Native.Nat.{ℕ, suc, _+_, _-_, _%_, min}
+use native.Mathlib.Omega.{arith}
 use native.Mathlib.Numerals.{add-one}
 use mathlib.Core.Path.{_≡_, refl, sym, ap, _∙_}
 use mathlib.Core.List.{List, [], _∷_, map}
@@ -62,9 +63,9 @@ module _ (at : ℕ) (store : List ℕ) (n : ℕ) (e : n ≡ inFront (drop at sto
   pub placed-anew : n ≡ 0 → l' ≡ placedWithin (roomOf l) l (entriesOf (b % 65536) top) → l' ≡ placedWithin (roomOf l) l (entriesOf (b % 65536) (recalledTop (drop at store) top))
   placed-anew z q = q ∙ ap (λ t. placedWithin (roomOf l) l (entriesOf (b % 65536) t)) (sym (none-top at store n e z top))
 
-  pub placed-frame : (n ≡ 0 → ⊥) → (ks : List ℕ) → ks ≡ part (at + 1) n store → l' ≡ keyEntries b ks l → l' ≡ placedWithin (roomOf l) l (entriesOf (b % 65536) (recalledTop (drop at store) top))
-  placed-frame z ks k q =
-      q ∙ ap (λ ks. keyEntries b ks l) k ∙ entries-of-frame b (part (at + 1) n store) l
+  pub placed-frame : (n ≡ 0 → ⊥) → l' ≡ keyEntries b (part (at + 1) (at + 1 + n - (at + 1)) store) l → l' ≡ placedWithin (roomOf l) l (entriesOf (b % 65536) (recalledTop (drop at store) top))
+  placed-frame z q =
+      q ∙ ap (λ k. keyEntries b (part (at + 1) k store) l) (let w : at + 1 + n - (at + 1) ≡ n = omega arith in w) ∙ entries-of-frame b (part (at + 1) n store) l
       ∙ ap (λ t. placedWithin (roomOf l) l (entriesOf (b % 65536) t)) (sym (frame-top at store n e z top))
 
 -- ---- one block after another: placing what is left comes to the same as placing all

@@ -11,24 +11,25 @@ use Rattle.documents.specs.Documents.{Documents}
 use Rattle.sparse_layout.specs.Keys.{lent, named, laidComponents, laidStarts, scanned}
 use Rattle.summary_terms.specs.Answers.{limitOf}
 use Rattle.build_block_summary.specs.Blocks.{tops}
+use Rattle.build_kept_keys.specs.Frames.{recalled}
 use Rattle.build_fill_pass.specs.Filling.{Filling, filling, fillLeft}
 use Rattle.build_meaning.specs.Building.{zeros, floatZeros}
 use Rattle.build_sizes.specs.Sized.{postingOf}
 use Rattle.build_sizes.specs.Laws.Fronts.{front-is}
 use Rattle.build_output.specs.Placed.{Written, written, cursorsOf, filledBy, secondPass}
 
-module _ (dimension n : ℕ) (s : SummarizationStrategy) (d : Documents) (order blocks keys places : List ℕ) (maxima : List Float) (counts cursors : List ℕ) (w : Written)
+module _ (dimension n : ℕ) (s : SummarizationStrategy) (d : Documents) (order blocks store keys places : List ℕ) (maxima : List Float) (counts cursors : List ℕ) (w : Written)
     (cut : n ≡ min dimension (length counts)) (long : length cursors ≡ length (take n counts)) (scan : cursors ≡ scanned 0 0 (named (take n counts)) (take n counts)) (after : Filling)
-    (e : after ≡ fillLeft (tops (limitOf dimension (length keys) (length places) (length maxima)) s d order blocks) (filling keys places maxima (lent (take n (cursors ++ drop n counts)) (w .summaryIds) (w .codes)))) where
+    (e : after ≡ fillLeft (recalled store (tops (limitOf dimension (length keys) (length places) (length maxima)) s d order blocks)) (filling keys places maxima (lent (take n (cursors ++ drop n counts)) (w .summaryIds) (w .codes)))) where
   abbrev given : List ℕ → Filling
   given c = filling keys places maxima (lent c (w .summaryIds) (w .codes))
 
-  filled-is : after ≡ filledBy dimension s d order blocks (given (cursorsOf dimension counts))
-  filled-is = e ∙ ap (λ c. filledBy dimension s d order blocks (given c)) (front-is counts cursors n (least-long dimension (length counts) n cut) long ∙ scan ∙ ap (λ t. scanned 0 0 (named t) t) (cut-is counts dimension n cut))
+  filled-is : after ≡ filledBy dimension s d order blocks store (given (cursorsOf dimension counts))
+  filled-is = e ∙ ap (λ c. filledBy dimension s d order blocks store (given c)) (front-is counts cursors n (least-long dimension (length counts) n cut) long ∙ scan ∙ ap (λ t. scanned 0 0 (named t) t) (cut-is counts dimension n cut))
 
   pub passed : (postings offsets components starts : List ℕ) → postings ≡ sets (w .postings) 0 (map (postingOf d) order) → offsets ≡ sets (w .blockOffsets) 0 blocks
       → components ≡ laidComponents 0 0 (named (take n counts)) (w .summaryComponents) → starts ≡ laidStarts 0 0 (named (take n counts)) (w .componentOffsets)
-      → written postings offsets components starts (after .entries .summaryIds) (after .entries .codes) ≡ secondPass dimension s d order blocks keys places maxima counts w
+      → written postings offsets components starts (after .entries .summaryIds) (after .entries .codes) ≡ secondPass dimension s d order blocks store keys places maxima counts w
   passed postings offsets components starts ep eo ec es =
       λ j. written (ep j) (eo j)
       ((ec ∙ ap (λ t. laidComponents 0 0 (named t) (w .summaryComponents)) (cut-is counts dimension n cut)) j)

@@ -31,9 +31,10 @@ use Rattle.build_meaning.specs.Built.{Built}
 use Rattle.build_meaning.specs.Needs.{outputSuffices}
 use Rattle.build_meaning.specs.Building.{answerBy}
 use Rattle.build_block_summary.specs.Blocks.{tops}
-use Rattle.build_count_pass.specs.Counting.{noneEmpty, Counting, counting, countLeft, countsOf}
+use Rattle.build_kept_keys.specs.Frames.{keptIn}
+use Rattle.build_count_pass.specs.Counting.{noneEmpty, fullFirst, Counting, counting, countLeft, countsOf}
 use Rattle.build_sizes.specs.declared.OutputLengths.{OutputLengths}
-use Rattle.build_sizes.specs.Sized.{postingOf, builtFrom, workFor, laidVerdict, roomOf, judgedRoom, sizesOrRefused, roomBy, roomAnswer, measuredBy, measuredLeft, Measures}
+use Rattle.build_sizes.specs.Sized.{postingOf, builtFrom, workFor, laidVerdict, roomOf, judgedRoom, sizesOrRefused, roomBy, roomAnswer, measuredBy, measuredLeft, storedBy, measuredStore, Measures}
 use Rattle.build_sizes.specs.Laws.Fronts.{all-full, limit-whole}
 use Rattle.build_sizes.specs.Laws.Tallied.{component-count, start-count, entry-count, code-count, minimum-count, step-count}
 
@@ -84,6 +85,9 @@ module _ (dimension : ℕ) (s : SummarizationStrategy) (d : Documents) (order bl
         left = sym (ap (λ v. measuredBy v dimension T w) (sym judged ∙ f));
       }
 
+  pub stored-refused : (r : Refusal) → v ≡ verdict.Refused r → (store : List ℕ) → store ≡ measuredStore dimension s d order blocks w store
+  stored-refused r f store = sym (ap (λ v. storedBy v T store) (sym judged ∙ f))
+
   -- it is accepted: there are no more blocks than there may be, and each buffer has room
   module _ (f : v ≡ verdict.Accepted) where
     faults : Faultless (workFor dimension blocks w)
@@ -104,6 +108,9 @@ module _ (dimension : ℕ) (s : SummarizationStrategy) (d : Documents) (order bl
 
     limit-is : limitOf dimension (length (w .keys)) (length (w .places)) (length (w .maxima)) ≡ dimension
     limit-is = limit-whole dimension (length (w .keys)) (length (w .places)) (length (w .maxima)) (roomy .0) (roomy .1) (roomy .2)
+
+    pub stored : (store after : List ℕ) → after ≡ keptIn (fullFirst (tops (limitOf dimension (length (w .keys)) (length (w .places)) (length (w .maxima))) s d order blocks)) store → after ≡ measuredStore dimension s d order blocks w store
+    stored store after q = q ∙ ap (λ n. keptIn (fullFirst (tops n s d order blocks)) store) limit-is ∙ sym (ap (λ v. storedBy v T store) (sym judged ∙ f))
 
     last-decide : laidVerdict dimension s d order blocks w (roomOf l) ≡ firstOf lastTests
     unfolding laidVerdict

@@ -88,7 +88,7 @@ returns c =
     let at-answer = answer-of at-clear-output in
     let start = start-before-answer at-answer in
     let a = start .args in
-    settled-refused (a .dimension) (a .strategy) (documents (a .offsets .now) (a .components .now) (a .values .now)) (a .order .now) (a .blocks .now)
+    settled-refused (a .dimension) (a .strategy) (documents (a .offsets .now) (a .components .now) (a .values .now)) (a .order .now) (a .blocks .now) (a .store .now)
     (outputs (a .postings .now) (a .block-offsets .now) (a .summary-components .now) (a .component-offsets .now) (a .summary-ids .now) (a .codes .now) (a .minimums .now)
     (a .steps .now))
     (outputs (at-clear-output .clear-output .last .0)
@@ -140,7 +140,7 @@ returns-2 c =
     let at-answer2 = answer2-of at-place in
     let start = start-before-answer2 at-answer2 in
     let a = start .args in
-    settled-built (a .dimension) (a .strategy) (documents (a .offsets .now) (a .components .now) (a .values .now)) (a .order .now) (a .blocks .now)
+    settled-built (a .dimension) (a .strategy) (documents (a .offsets .now) (a .components .now) (a .values .now)) (a .order .now) (a .blocks .now) (a .store .now)
     (outputs (a .postings .now) (a .block-offsets .now) (a .summary-components .now) (a .component-offsets .now) (a .summary-ids .now) (a .codes .now) (a .minimums .now)
     (a .steps .now))
     (outputs (at-place .place .last .1 .1 .1 .1 .1 .1 .1 .1 .1 .1 .1 .0)
