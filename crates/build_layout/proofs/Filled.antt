@@ -13,11 +13,12 @@ use Rattle.refusal.specs.declared.Verdict.the-variants as verdict
 use Rattle.refusal.specs.First.{Faultless}
 use Rattle.refusal.specs.Laws.First.{faultless, accepted-by}
 use Rattle.configuration.specs.declared.SummarizationStrategy.{SummarizationStrategy}
-use Rattle.sequences.specs.Lists.{between}
+use Rattle.sequences.specs.Lists.{EachOf, between}
 use Rattle.sequences.specs.Laws.Lists.{both, neither, between-count}
 use Rattle.blocking.specs.Limits.{blockLimit, dimensionLimit}
 use Rattle.blocking.specs.Laws.Limits.{block-fits}
 use Rattle.documents.specs.Documents.{Documents}
+use Rattle.documents.specs.Laws.TermKeys.{Held}
 use Rattle.summary_maximum.specs.Maximum.{blockTerms, below}
 use Rattle.summary_terms.specs.Summaries.{summaryOf}
 use Rattle.summary_terms.specs.Answers.{limitOf}
@@ -33,13 +34,15 @@ use Rattle.sparse_layout.specs.Laws.Written.{written-components, written-offset
 use Rattle.build_meaning.specs.Needs.{outputSuffices}
 use Rattle.build_meaning.specs.Building.{Outputs, outputs, outputLengths, filled, laid}
 use Rattle.build_block_summary.specs.Blocks.{termsIn}
+use Rattle.build_kept_keys.specs.Frames.{keptIn, recalled}
+use Rattle.build_kept_keys.specs.Laws.Frames.{kept-back}
 use Rattle.build_count_pass.specs.Counting.{noneEmpty, Counting, counting, countedIn, countsOf, minimumsOf, stepsOf}
 use Rattle.build_fill_pass.specs.Filling.{filling, numberedFrom, placedIn}
 use Rattle.build_fill_pass.specs.Laws.Numbered.{numbered-whole}
 use Rattle.build_output.specs.Placed.{cursorsOf, filledBy, secondPass}
 use Rattle.build_output.specs.Settled.{writtenOf, over}
 use Rattle.build_layout.specs.Laid.{postingOf, tops, builtFrom, workFor, laidTests, laidVerdict}
-use Rattle.build_sizes.specs.Sized.{measuredBy, measuredLeft}
+use Rattle.build_sizes.specs.Sized.{measuredBy, measuredLeft, storedBy, measuredStore}
 use Rattle.build_sizes.specs.Laws.Fronts.{all-full, limit-whole}
 use Rattle.build_sizes.specs.Laws.Tallied.{inside, rare, tally, narrow, slight, component-count, entry-count, code-count}
 
@@ -141,8 +144,17 @@ module _ (dimension : ℕ) (s : SummarizationStrategy) (d : Documents) (order bl
       ∙ take-at (countsOf (tops dimension s d order blocks) (take dimension counts)) (drop dimension counts) dimension
       (counts-long (map componentOf (entriesFrom 0 (tops dimension s d order blocks))) (replicate (length (take dimension counts)) 0) ∙ length-replicate {A = ℕ} (length (take dimension counts)) 0 ∙ length-take-le dimension counts whole)
 
-  module _ (k' p' : List ℕ) (m' : List Float) (c : List ℕ) (low step : List Float) (hk : length k' ≡ length keys) (hp : length p' ≡ length places) (hm : length m' ≡ length maxima)
+  module _ (held : EachOf (EachOf Held) (tops dimension s d order blocks)) (store store' : List ℕ) (stored : store' ≡ measuredStore dimension s d order blocks (counting keys places maxima counts (o .minimums) (o .steps)) store)
+      (k' p' : List ℕ) (m' : List Float) (c : List ℕ) (low step : List Float) (hk : length k' ≡ length keys) (hp : length p' ≡ length places) (hm : length m' ≡ length maxima)
       (after : counting k' p' m' c low step ≡ measuredLeft dimension s d order blocks (counting keys places maxima counts (o .minimums) (o .steps))) where
+    -- the store gives back what the summaries keep
+    recalled-are : recalled store' (tops dimension s d order blocks) ≡ tops dimension s d order blocks
+    recalled-are =
+        ap (λ z. recalled z (tops dimension s d order blocks))
+        (stored ∙ ap (λ v. storedBy v (tops dimension s d order blocks) store) (accepted-by (workFor dimension blocks given) (faults .0, (faults .1 .0, (faults .1 .1 .0, tt))))
+        ∙ ap (λ t. keptIn t store) (all-full (tops dimension s d order blocks) none))
+        ∙ kept-back (tops dimension s d order blocks) store held none
+
     q : take dimension c ≡ countsOf (tops dimension s d order blocks) (take dimension counts)
     q = front-counts c (ap (λ z. z .entryCounts) (counted-is (counting k' p' m' c low step) after))
 
@@ -167,15 +179,16 @@ module _ (dimension : ℕ) (s : SummarizationStrategy) (d : Documents) (order bl
         ∙ written-offsets (tops dimension s d order blocks) dimension (inside dimension s d bs few small) (rare dimension s d bs few small) (narrow dimension s d bs few small) (slight dimension s d bs few small) (o .componentOffsets) (let e = starts-long in let r = roomy .componentOffsets in omega arith)
         ∙ ap (λ n. layout (tops dimension s d order blocks) .componentOffsets ++ drop n (o .componentOffsets)) starts-long
 
-    entries-are : filledBy dimension s d order blocks (filling k' p' m' (lent (cursorsOf dimension c) (o .summaryIds) (o .codes))) .entries ≡ lent (movedBy (scanFrom 0 t) (entriesFrom 0 (tops dimension s d order blocks))) (laid (layout (tops dimension s d order blocks) .summaryIds) (o .summaryIds)) (laid (layout (tops dimension s d order blocks) .codes) (o .codes))
+    entries-are : filledBy dimension s d order blocks store' (filling k' p' m' (lent (cursorsOf dimension c) (o .summaryIds) (o .codes))) .entries ≡ lent (movedBy (scanFrom 0 t) (entriesFrom 0 (tops dimension s d order blocks))) (laid (layout (tops dimension s d order blocks) .summaryIds) (o .summaryIds)) (laid (layout (tops dimension s d order blocks) .codes) (o .codes))
     entries-are =
-        ap (λ n. placedIn (lent (cursorsOf dimension c) (o .summaryIds) (o .codes)) (tops n s d order blocks)) ((λ j. limitOf dimension (hk j) (hp j) (hm j)) ∙ limit-whole dimension (length keys) (length places) (length maxima) (rooms .0) (rooms .1) (rooms .2))
+        ap (λ n. placedIn (lent (cursorsOf dimension c) (o .summaryIds) (o .codes)) (recalled store' (tops n s d order blocks))) ((λ j. limitOf dimension (hk j) (hp j) (hm j)) ∙ limit-whole dimension (length keys) (length places) (length maxima) (rooms .0) (rooms .1) (rooms .2))
+        ∙ ap (placedIn (lent (cursorsOf dimension c) (o .summaryIds) (o .codes))) recalled-are
         ∙ (λ j. placedWithin (min (length (o .summaryIds)) (length (o .codes))) (lent (scanned 0 0 (named (counts-are j)) (counts-are j)) (o .summaryIds) (o .codes)) (numbered j))
         ∙ written-entries (tops dimension s d order blocks) dimension (inside dimension s d bs few small) (rare dimension s d bs few small) (narrow dimension s d bs few small) (slight dimension s d bs few small) (o .summaryIds) (o .codes) (let e = total-is in let r = roomy .summaryIds in omega arith)
         (let e = total-is in let f = code-count dimension s d bs few small in let r = roomy .codes in omega arith)
         ∙ (λ j. lent (movedBy (scanFrom 0 t) (entriesFrom 0 (tops dimension s d order blocks))) (layout (tops dimension s d order blocks) .summaryIds ++ drop (total-is j) (o .summaryIds)) (layout (tops dimension s d order blocks) .codes ++ drop ((total-is ∙ sym (code-count dimension s d bs few small)) j) (o .codes)))
 
-    pub filled-is : over (secondPass dimension s d order blocks k' p' m' c (writtenOf o)) (outputs (o .postings) (o .blockOffsets) (o .summaryComponents) (o .componentOffsets) (o .summaryIds) (o .codes) low step) ≡ filled (builtFrom dimension s d order blocks) o
+    pub filled-is : over (secondPass dimension s d order blocks store' k' p' m' c (writtenOf o)) (outputs (o .postings) (o .blockOffsets) (o .summaryComponents) (o .componentOffsets) (o .summaryIds) (o .codes) low step) ≡ filled (builtFrom dimension s d order blocks) o
     unfolding filled builtFrom layout
     filled-is = λ j. outputs (sets-front (o .postings) (map (postingOf d) order) (let l = length-map order (postingOf d) in let r = roomy .postings in omega arith) j) (sets-front (o .blockOffsets) blocks (roomy .blockOffsets) j) (components-are j) (starts-are j) (entries-are j .summaryIds) (entries-are j .codes) ((el ∙ sets-front (o .minimums) (minimumsOf (tops dimension s d order blocks))
         (roomy .minimums)) j) ((es ∙ sets-front (o .steps) (stepsOf (tops dimension s d order blocks)) (roomy .steps)) j)
