@@ -14,7 +14,7 @@ use Rattle.build_count_pass.specs.Counting.{counting}
 use Rattle.build_ready.specs.declared.ListBlocks.{ListBlocks}
 use Rattle.build_ready.specs.declared.ListBlocks.the-variants as made
 use Rattle.build_layout.specs.Laid.{builtFrom, laidVerdict, left, leftBy}
-use Rattle.build_result.specs.Finished.{finished, finishedBy}
+use Rattle.build_result.specs.Finished.{finished, finishedBy, slotsBy}
 use Rattle.sequences.specs.Laws.Lists.{cut-is}
 
 module _ (b : ListBlocks) (dimension : ℕ) (s : SummarizationStrategy) (d : Documents) (listed : ℕ) (o : Outputs) (order blocks k c : List ℕ) (x : List Float) (t : List ℕ) where
@@ -28,3 +28,10 @@ module _ (b : ListBlocks) (dimension : ℕ) (s : SummarizationStrategy) (d : Doc
       (λ j. finished (e j) (eo j) (eb j))
       ∙ (λ j. finished (leftBy (laidVerdict dimension s d (cut-is order listed n en j) (cut-is blocks count m em j) (counting k c x t (o .minimums) (o .steps)) (outputLengths o)) (builtFrom dimension s d (cut-is order listed n en j) (cut-is blocks count m em j)) o k c x t) (zeros order) (zeros blocks))
       ∙ ap (λ b. finishedBy b dimension s d listed o order blocks k c x t) (sym w)
+
+-- ---- the slots
+pub slots-refused : (b : ListBlocks) (slots : List ℕ) (r : Refusal) → b ≡ made.Refused r → slots ≡ slotsBy b slots
+slots-refused b slots r w = sym (ap (λ b. slotsBy b slots) w)
+
+pub slots-cleared : (b : ListBlocks) (slots after : List ℕ) (n : ℕ) → b ≡ made.Offsets n → after ≡ zeros slots → after ≡ slotsBy b slots
+slots-cleared b slots after n w e = e ∙ sym (ap (λ b. slotsBy b slots) w)

@@ -2,19 +2,19 @@
 use Rattle.documents.specs.Documents.{documents}
 use Rattle.build_meaning.specs.Building.{outputs}
 use Rattle.sequences.specs.Laws.Lists.{least-long, least-count}
-use Rattle.build_result.proofs.Laws.{refused-end, written-end}
+use Rattle.build_result.proofs.Laws.{refused-end, written-end, slots-refused, slots-cleared}
 use borrow.Author.Needs.{needs}
 use Rattle.build_result.proofs.finish.Statement.{statement}
 use Rattle.build_result.proofs.finish.Tie as tie
 
 -- the places that the needs speak of, found by their types
-abbrev clear-u64-of : tie.After-slice-known36 → tie.After-clear-u64
+abbrev clear-u64-of : tie.After-slice-known38 → tie.After-clear-u64
 clear-u64-of p = search needs
 
 abbrev write-of : tie.After-clear-u64 → tie.After-write
 write-of p = search needs
 
-abbrev clear-output-of : tie.After-slice-known22 → tie.After-clear-output
+abbrev clear-output-of : tie.After-slice-known23 → tie.After-clear-output
 clear-output-of p = search needs
 
 abbrev shorter2-of : tie.After-write → tie.After-shorter2
@@ -100,14 +100,16 @@ returns c =
     let at-clear-output = clear-output-of c in
     let at-made = made-of at-clear-output in
     let start = start-before-made at-made in
-    let a = start .args in
-    refused-end (a .made) (a .dimension) (a .summarization) (documents (a .offsets .now) (a .components .now) (a .values .now)) (a .listed)
-    (outputs (a .postings .now) (a .block-offsets .now) (a .summary-components .now) (a .component-offsets .now) (a .summary-ids .now) (a .codes .now) (a .minimums .now)
-    (a .steps .now)) (a .order .now) (a .blocks .now) (a .keys .now) (a .counts .now) (a .sums .now) (a .starts .now) _
-    (outputs (at-clear-output .clear-output .last .0) (at-clear-output .clear-output .last .1 .0) (at-clear-output .clear-output .last .1 .1 .0)
-    (at-clear-output .clear-output .last .1 .1 .1 .0) (at-clear-output .clear-output .last .1 .1 .1 .1 .0) (at-clear-output .clear-output .last .1 .1 .1 .1 .1 .0)
-    (at-clear-output .clear-output .last .1 .1 .1 .1 .1 .1 .0) (at-clear-output .clear-output .last .1 .1 .1 .1 .1 .1 .1 .0)) (at-made .made .given .1)
-    (at-clear-output .clear-output .ensures)
+    let a = start .args in (
+      refused-end (a .made) (a .dimension) (a .summarization) (documents (a .offsets .now) (a .components .now) (a .values .now)) (a .listed)
+          (outputs (a .postings .now) (a .block-offsets .now) (a .summary-components .now) (a .component-offsets .now) (a .summary-ids .now) (a .codes .now) (a .minimums .now)
+          (a .steps .now)) (a .order .now) (a .blocks .now) (a .keys .now) (a .counts .now) (a .sums .now) (a .starts .now) _
+          (outputs (at-clear-output .clear-output .last .0) (at-clear-output .clear-output .last .1 .0) (at-clear-output .clear-output .last .1 .1 .0)
+          (at-clear-output .clear-output .last .1 .1 .1 .0) (at-clear-output .clear-output .last .1 .1 .1 .1 .0) (at-clear-output .clear-output .last .1 .1 .1 .1 .1 .0)
+          (at-clear-output .clear-output .last .1 .1 .1 .1 .1 .1 .0) (at-clear-output .clear-output .last .1 .1 .1 .1 .1 .1 .1 .0)) (at-made .made .given .1)
+          (at-clear-output .clear-output .ensures),
+      slots-refused (a .made) (a .slots .now) _ (at-made .made .given .1),
+    )
 
 same-length-9 : tie.Need-same-length-9
 same-length-9 c = let at-write = write-of (clear-u64-of c) in at-write .write .kept .1 .1 .1 .1 .1 .1 .1 .0
@@ -151,6 +153,9 @@ same-length-21 c = let at-write = write-of (clear-u64-of c) in at-write .write .
 same-length-22 : tie.Need-same-length-22
 same-length-22 c = let at-write = write-of (clear-u64-of c) in at-write .write .kept .1 .1 .1 .1 .1 .1 .1 .1 .1 .1 .1 .1 .1 .1 .1 .0
 
+same-length-23 : tie.Need-same-length-23
+same-length-23 c = let at-write = write-of (clear-u64-of c) in at-write .write .kept .1 .1 .1 .1 .1 .1 .1 .1 .1 .1 .1 .1 .1 .1 .1 .1 .1 .1 .1 .0
+
 returns-2 : tie.Need-returns-2
 returns-2 c =
     let at-clear-u64 = clear-u64-of c in
@@ -159,18 +164,20 @@ returns-2 c =
     let at-shorter = shorter-of at-shorter2 in
     let at-made2 = made2-of at-shorter in
     let start = start-before-made2 at-made2 in
-    let a = start .args in
-    written-end (a .made) (a .dimension) (a .summarization) (documents (a .offsets .now) (a .components .now) (a .values .now)) (a .listed)
-    (outputs (a .postings .now) (a .block-offsets .now) (a .summary-components .now) (a .component-offsets .now) (a .summary-ids .now) (a .codes .now) (a .minimums .now)
-    (a .steps .now)) (a .order .now) (a .blocks .now) (a .keys .now) (a .counts .now) (a .sums .now) (a .starts .now) _ _ _ (at-made2 .made2 .given .1)
-    (at-shorter .shorter .ensures) (at-shorter2 .shorter2 .ensures) (at-write .write .result)
-    (outputs (at-write .write .last .1 .1 .1 .1 .1 .1 .1 .0) (at-write .write .last .1 .1 .1 .1 .1 .1 .1 .1 .0) (at-write .write .last .1 .1 .1 .1 .1 .1 .1 .1 .1 .0)
-    (at-write .write .last .1 .1 .1 .1 .1 .1 .1 .1 .1 .1 .0) (at-write .write .last .1 .1 .1 .1 .1 .1 .1 .1 .1 .1 .1 .0)
-    (at-write .write .last .1 .1 .1 .1 .1 .1 .1 .1 .1 .1 .1 .1 .0) (at-write .write .last .1 .1 .1 .1 .1 .1 .1 .1 .1 .1 .1 .1 .1 .0)
-    (at-write .write .last .1 .1 .1 .1 .1 .1 .1 .1 .1 .1 .1 .1 .1 .1 .0)) (at-write .write .last .1 .1 .1 .1 .1 .1 .1 .1 .1 .1 .1 .1 .1 .1 .1 .0)
-    (at-write .write .last .1 .1 .1 .1 .1 .1 .1 .1 .1 .1 .1 .1 .1 .1 .1 .1 .0) (at-write .write .last .1 .1 .1 .1 .1 .1 .1 .1 .1 .1 .1 .1 .1 .1 .1 .1 .1 .0)
-    (at-write .write .last .1 .1 .1 .1 .1 .1 .1 .1 .1 .1 .1 .1 .1 .1 .1 .1 .1 .1 .0) (at-clear-u64 .clear-u64 .last .0) (c .before .before .clear-u642 .last .0)
-    (at-write .write .ensures) (at-clear-u64 .clear-u64 .ensures) (c .before .before .clear-u642 .ensures)
+    let a = start .args in (
+      written-end (a .made) (a .dimension) (a .summarization) (documents (a .offsets .now) (a .components .now) (a .values .now)) (a .listed)
+          (outputs (a .postings .now) (a .block-offsets .now) (a .summary-components .now) (a .component-offsets .now) (a .summary-ids .now) (a .codes .now) (a .minimums .now)
+          (a .steps .now)) (a .order .now) (a .blocks .now) (a .keys .now) (a .counts .now) (a .sums .now) (a .starts .now) _ _ _ (at-made2 .made2 .given .1)
+          (at-shorter .shorter .ensures) (at-shorter2 .shorter2 .ensures) (at-write .write .result)
+          (outputs (at-write .write .last .1 .1 .1 .1 .1 .1 .1 .0) (at-write .write .last .1 .1 .1 .1 .1 .1 .1 .1 .0) (at-write .write .last .1 .1 .1 .1 .1 .1 .1 .1 .1 .0)
+          (at-write .write .last .1 .1 .1 .1 .1 .1 .1 .1 .1 .1 .0) (at-write .write .last .1 .1 .1 .1 .1 .1 .1 .1 .1 .1 .1 .0)
+          (at-write .write .last .1 .1 .1 .1 .1 .1 .1 .1 .1 .1 .1 .1 .0) (at-write .write .last .1 .1 .1 .1 .1 .1 .1 .1 .1 .1 .1 .1 .1 .0)
+          (at-write .write .last .1 .1 .1 .1 .1 .1 .1 .1 .1 .1 .1 .1 .1 .1 .0)) (at-write .write .last .1 .1 .1 .1 .1 .1 .1 .1 .1 .1 .1 .1 .1 .1 .1 .0)
+          (at-write .write .last .1 .1 .1 .1 .1 .1 .1 .1 .1 .1 .1 .1 .1 .1 .1 .1 .0) (at-write .write .last .1 .1 .1 .1 .1 .1 .1 .1 .1 .1 .1 .1 .1 .1 .1 .1 .1 .0)
+          (at-write .write .last .1 .1 .1 .1 .1 .1 .1 .1 .1 .1 .1 .1 .1 .1 .1 .1 .1 .1 .0) (at-clear-u64 .clear-u64 .last .0) (c .before .before .clear-u642 .last .0)
+          (at-write .write .ensures .0) (at-clear-u64 .clear-u64 .ensures) (c .before .before .clear-u642 .ensures),
+      slots-cleared (a .made) (a .slots .now) (at-write .write .last .1 .1 .1 .1 .1 .1 .1 .1 .1 .1 .1 .1 .1 .1 .1 .1 .1 .1 .1 .0) _ (at-made2 .made2 .given .1) (at-write .write .ensures .1),
+    )
 
 pub finish-spec : {M : Type 1} → statement M
 finish-spec =
@@ -211,4 +218,5 @@ finish-spec =
     same-length-20
     same-length-21
     same-length-22
+    same-length-23
     returns-2)
