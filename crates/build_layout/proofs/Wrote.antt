@@ -77,7 +77,8 @@ module _ (dimension : ℕ) (s : SummarizationStrategy) (d : Documents) (order bl
       (λ j. left (e j) ((cleared ∙ sym (ap (λ v. outputBy v b o) (q .1))) j) (same-zeros k k1 (zeros k1) refl hk j) (same-zeros p p1 (zeros p1) refl hp j) (same-float-zeros m m1 (floatZeros m1) refl hm j) (same-zeros c c1 (zeros c1) refl hc j))
   ended (answer.Built z) e =
       let q = accepted-by-answer v b z e in
-      (λ j. left (e j) ((filled-is dimension s d order blocks k p m c o q (tops-held dimension s d narrow fit (between blocks order)) store store1 stored k1 p1 m1 c1 low step hk hp hm (measured .left) ∙ sym (ap (λ v. outputBy v b o) q)) j) (same-zeros k k1 (zeros k1) refl hk j) (same-zeros p p1 (zeros p1) refl hp j) (same-float-zeros m m1 (floatZeros m1) refl hm j) (same-zeros c c1 (zeros c1) refl hc j))
+      (λ j. left (e j) ((filled-is dimension s d order blocks k p m c o q (tops-held dimension s d narrow fit (between blocks order)) store store1 stored k1 p1 m1 c1 low step hk hp hm
+      (measured .left) ∙ sym (ap (λ v. outputBy v b o) q)) j) (same-zeros k k1 (zeros k1) refl hk j) (same-zeros p p1 (zeros p1) refl hp j) (same-float-zeros m m1 (floatZeros m1) refl hm j) (same-zeros c c1 (zeros c1) refl hc j))
 
   pub wrote : (l : Left) → l ≡ settled a dimension s d order blocks store1 between-passes k1 p1 m1 c1 → l ≡ leftBy v b o k p m c
   wrote l e = e ∙ ended a (measured .answer)

@@ -24,7 +24,8 @@ unfolding frames
 frames-fit places [] = omega arith
 frames-fit places (k ∷ ks) = go (frames-fit (places - suc (length k)) ks) (ltb (length k) places) refl
   where
-    go : length (frames (places - suc (length k)) ks) ≤ places - suc (length k) → (z : Bool) → ltb (length k) places ≡ z → length (cond z (length k ∷ k ++ frames (places - suc (length k)) ks) []) ≤ places
+    go : length (frames (places - suc (length k)) ks) ≤ places - suc (length k) → (z : Bool) → ltb (length k) places ≡ z
+        → length (cond z (length k ∷ k ++ frames (places - suc (length k)) ks) []) ≤ places
     go i true h = let l = length-append k (frames (places - suc (length k)) ks) in let m = ltb-true (length k) places h in omega arith
     go i false h = omega arith
 
@@ -39,20 +40,29 @@ sets-append store at [] b = ap (λ n. sets store n b) (let e : at ≡ at + 0 = o
 sets-append store at (x ∷ a) b = sets-append (set store at x) (suc at) a b ∙ ap (λ n. sets (sets store at (x ∷ a)) n b) (let e : suc at + length a ≡ at + suc (length a) = omega arith in e)
 
 -- one block stored, and then those after it: together that is all of them
-pub frames-on : (store : List ℕ) (at : ℕ) (k : List ℕ) (ks : List (List ℕ)) (at' : ℕ) (store' : List ℕ) → at' ≡ placeAfter at (length k) (length store) → store' ≡ sets store at (frame (length store - at) k)
-    → sets store' at' (frames (length store' - at') ks) ≡ sets store at (frames (length store - at) (k ∷ ks))
-unfolding frames
-frames-on store at k ks at' store' p q =
-    (λ j. sets (q j) (p j) (frames (length (q j) - p j) ks)) ∙ ap (λ n. sets (sets store at (frame (length store - at) k)) (placeAfter at (length k) (length store)) (frames (n - placeAfter at (length k) (length store)) ks)) (length-sets store at (frame (length store - at) k)) ∙ go (ltb (length k) (length store - at)) refl
-  where
-    go : (z : Bool) → ltb (length k) (length store - at) ≡ z → sets (sets store at (frame (length store - at) k)) (placeAfter at (length k) (length store)) (frames (length store - placeAfter at (length k) (length store)) ks) ≡ sets store at (frames (length store - at) (k ∷ ks))
-    go true h =
-        let e : at + 1 + length k ≡ at + suc (length k) = omega arith in
-        let f : length store - (at + suc (length k)) ≡ length store - at - suc (length k) = omega arith in
-        rw h (ap (λ n. sets (sets store at (length k ∷ k)) n (frames (length store - n) ks)) e ∙ ap (λ n. sets (sets store at (length k ∷ k)) (at + suc (length k)) (frames n ks)) f ∙ sym (sets-append store at (length k ∷ k) (frames (length store - at - suc (length k)) ks)))
-    go false h =
-        let e : length store - length store ≡ 0 = omega arith in
-        rw h (ap (λ n. sets store (length store) (frames n ks)) e ∙ ap (sets store (length store)) (full-store ks))
+module _ (store : List ℕ) (at : ℕ) (k : List ℕ) (ks : List (List ℕ)) where
+  stored-on : (z : Bool) → ltb (length k) (length store - at) ≡ z
+      → sets (sets store at (frame (length store - at) k)) (placeAfter at (length k) (length store)) (frames (length store - placeAfter at (length k) (length store)) ks)
+      ≡ sets store at (frames (length store - at) (k ∷ ks))
+  unfolding frames
+  stored-on true h =
+      let e : at + 1 + length k ≡ at + suc (length k) = omega arith in
+      let f : length store - (at + suc (length k)) ≡ length store - at - suc (length k) = omega arith in
+      rw h
+      (ap (λ n. sets (sets store at (length k ∷ k)) n (frames (length store - n) ks)) e
+      ∙ ap (λ n. sets (sets store at (length k ∷ k)) (at + suc (length k)) (frames n ks)) f
+      ∙ sym (sets-append store at (length k ∷ k) (frames (length store - at - suc (length k)) ks)))
+  stored-on false h =
+      let e : length store - length store ≡ 0 = omega arith in
+      rw h (ap (λ n. sets store (length store) (frames n ks)) e ∙ ap (sets store (length store)) (full-store ks))
+
+  pub frames-on : (at' : ℕ) (store' : List ℕ) → at' ≡ placeAfter at (length k) (length store) → store' ≡ sets store at (frame (length store - at) k)
+      → sets store' at' (frames (length store' - at') ks) ≡ sets store at (frames (length store - at) (k ∷ ks))
+  frames-on at' store' p q =
+      (λ j. sets (q j) (p j) (frames (length (q j) - p j) ks))
+      ∙ ap (λ n. sets (sets store at (frame (length store - at) k)) (placeAfter at (length k) (length store)) (frames (n - placeAfter at (length k) (length store)) ks))
+      (length-sets store at (frame (length store - at) k))
+      ∙ stored-on (ltb (length k) (length store - at)) refl
 
 -- ---- read back
 terms-back : (ts : List Term) → EachOf Held ts → map termOf (map termKey ts) ≡ ts
@@ -63,22 +73,25 @@ in-front-of : (keys rest : List ℕ) → inFront (length keys ∷ keys ++ rest) 
 in-front-of keys rest = let l = length-append keys rest in ap (λ z. cond z (length keys) 0) (le-leb (length keys) (length (keys ++ rest)) (omega arith))
 
 -- zeros have no frame
-in-front-zeros : (n : ℕ) → inFront (replicate n 0) ≡ 0
-in-front-zeros zero = refl
-in-front-zeros (suc n) = go (leb 0 (length (replicate {A = ℕ} n 0)))
+in-front-zeros : (m n : ℕ) → inFront (drop m (replicate n 0)) ≡ 0
+in-front-zeros zero zero = refl
+in-front-zeros zero (suc n) = go (leb 0 (length (replicate {A = ℕ} n 0)))
   where
     go : (z : Bool) → _≡_ {A = ℕ} (cond z 0 0) 0
     go true = refl
     go false = refl
+in-front-zeros (suc m) zero = refl
+in-front-zeros (suc m) (suc n) = in-front-zeros m n
 
-zeros-back : (n : ℕ) (tops : List (List Term)) → recalled (replicate n 0) tops ≡ tops
+none-back : (store : List ℕ) → inFront store ≡ 0 → (tops : List (List Term)) → recalled store tops ≡ tops
 unfolding recalled
-zeros-back n [] = refl
-zeros-back n (top ∷ tops) =
-    ap (λ k. cond (eqb k 0) top (map termOf (part 1 k (replicate n 0))) ∷ recalled (cond (eqb k 0) (replicate n 0) (drop (suc k) (replicate n 0))) tops) (in-front-zeros n)
-    ∙ ap (λ l. top ∷ l) (zeros-back n tops)
+none-back store z [] = refl
+none-back store z (top ∷ tops) =
+    ap (λ k. cond (eqb k 0) top (map termOf (part 1 k store)) ∷ recalled (cond (eqb k 0) store (drop (suc k) store)) tops) z
+    ∙ ap (λ l. top ∷ l) (none-back store z tops)
 
-frame-back : (top : List Term) (tops : List (List Term)) (rest : List ℕ) → EachOf Held top → eqb (length top) 0 ≡ false → recalled (length (map termKey top) ∷ map termKey top ++ rest) (top ∷ tops) ≡ top ∷ recalled rest tops
+frame-back : (top : List Term) (tops : List (List Term)) (rest : List ℕ) → EachOf Held top → eqb (length top) 0 ≡ false
+    → recalled (length (map termKey top) ∷ map termKey top ++ rest) (top ∷ tops) ≡ top ∷ recalled rest tops
 unfolding recalled
 frame-back top tops rest h e =
     let keys = map termKey top in
@@ -88,35 +101,32 @@ frame-back top tops rest h e =
     ∙ (λ j. map termOf (take-append-seam keys rest j) ∷ recalled (drop-append-seam keys rest j) tops)
     ∙ ap (λ t. t ∷ recalled rest tops) (terms-back top h)
 
-frames-back : (tops : List (List Term)) → EachOf (EachOf Held) tops → every (λ t. not (eqb (length t) 0)) tops ≡ true → (places n : ℕ) → recalled (frames places (keysOf tops) ++ replicate n 0) tops ≡ tops
+frames-back : (rest : List ℕ) → inFront rest ≡ 0 → (tops : List (List Term)) → EachOf (EachOf Held) tops → every (λ t. not (eqb (length t) 0)) tops ≡ true → (places : ℕ)
+    → recalled (frames places (keysOf tops) ++ rest) tops ≡ tops
 unfolding frames
-frames-back [] h e places n = zeros-back n []
-frames-back (top ∷ tops) h e places n =
+frames-back rest z [] h e places = none-back rest z []
+frames-back rest z (top ∷ tops) h e places =
     let b = both (not (eqb (length top) 0)) (every (λ t. not (eqb (length t) 0)) tops) e in
-    go (frames-back tops (h .1) (b .1) (places - suc (length (map termKey top))) n) (not-true (eqb (length top) 0) (b .0)) (ltb (length (map termKey top)) places)
+    go (frames-back rest z tops (h .1) (b .1) (places - suc (length (map termKey top)))) (not-true (eqb (length top) 0) (b .0)) (ltb (length (map termKey top)) places)
   where
-    go : recalled (frames (places - suc (length (map termKey top))) (keysOf tops) ++ replicate n 0) tops ≡ tops → eqb (length top) 0 ≡ false → (z : Bool)
-        → recalled (cond z (length (map termKey top) ∷ map termKey top ++ frames (places - suc (length (map termKey top))) (keysOf tops)) [] ++ replicate n 0) (top ∷ tops) ≡ top ∷ tops
+    go : recalled (frames (places - suc (length (map termKey top))) (keysOf tops) ++ rest) tops ≡ tops → eqb (length top) 0 ≡ false → (t : Bool)
+        → recalled (cond t (length (map termKey top) ∷ map termKey top ++ frames (places - suc (length (map termKey top))) (keysOf tops)) [] ++ rest) (top ∷ tops) ≡ top ∷ tops
     go i f true =
-        ap (λ l. recalled (length (map termKey top) ∷ l) (top ∷ tops)) (append-assoc (map termKey top) (frames (places - suc (length (map termKey top))) (keysOf tops)) (replicate n 0))
-        ∙ frame-back top tops (frames (places - suc (length (map termKey top))) (keysOf tops) ++ replicate n 0) (h .0) f
+        ap (λ l. recalled (length (map termKey top) ∷ l) (top ∷ tops)) (append-assoc (map termKey top) (frames (places - suc (length (map termKey top))) (keysOf tops)) rest)
+        ∙ frame-back top tops (frames (places - suc (length (map termKey top))) (keysOf tops) ++ rest) (h .0) f
         ∙ ap (λ l. top ∷ l) i
-    go i f false = zeros-back n (top ∷ tops)
-
-drop-zeros : (m n : ℕ) → drop {A = ℕ} m (replicate n 0) ≡ replicate (n - m) 0
-drop-zeros zero n = ap (λ k. replicate k 0) (let e : n ≡ n - 0 = omega arith in e)
-drop-zeros (suc m) zero = ap (λ k. replicate k 0) (let e : 0 ≡ 0 - suc m = omega arith in e)
-drop-zeros (suc m) (suc n) = drop-zeros m n ∙ ap (λ k. replicate k 0) (let e : n - m ≡ suc n - suc m = omega arith in e)
+    go i f false = none-back rest z (top ∷ tops)
 
 -- of held terms, where no block keeps none
-pub kept-back : (tops : List (List Term)) (store : List ℕ) → EachOf (EachOf Held) tops → every (λ t. not (eqb (length t) 0)) tops ≡ true → recalled (keptIn tops store) tops ≡ tops
+pub kept-back : (tops : List (List Term)) (store : List ℕ) → EachOf (EachOf Held) tops → every (λ t. not (eqb (length t) 0)) tops ≡ true
+    → recalled (keptIn tops store) tops ≡ tops
 unfolding keptIn
 kept-back tops store h e =
     let f = frames (length store) (keysOf tops) in
     let l = length-replicate {A = ℕ} (length store) 0 in
     let m = frames-fit (length store) (keysOf tops) in
-    ap (λ s. recalled s tops) (sets-eq f (zeros store) 0 (omega arith) ∙ ap (λ z. f ++ z) (drop-zeros (0 + length f) (length store)))
-    ∙ frames-back tops h e (length store) (length store - (0 + length f))
+    ap (λ s. recalled s tops) (sets-eq f (zeros store) 0 (omega arith))
+    ∙ frames-back (drop (0 + length f) (zeros store)) (in-front-zeros (0 + length f) (length store)) tops h e (length store)
 
 -- ---- the frame at a place
 module _ (at : ℕ) (store : List ℕ) where
@@ -147,7 +157,8 @@ module _ (at : ℕ) (store : List ℕ) where
         where
           go : (l : List ℕ) → length l ≡ length store - at → n ≡ inFront l → at + 1 + n ≤ length store
           go [] i e = absurd (z e)
-          go (m ∷ l) i e = ⊎-elim (λ t. let w = leb-true m (length l) t in let v : n ≡ m = e ∙ ap (λ b. cond b m 0) t in omega arith) (λ f. absurd (z (e ∙ ap (λ b. cond b m 0) f))) (decide (leb m (length l)))
+          go (m ∷ l) i e =
+              ⊎-elim (λ t. let w = leb-true m (length l) t in let v : n ≡ m = e ∙ ap (λ b. cond b m 0) t in omega arith) (λ f. absurd (z (e ∙ ap (λ b. cond b m 0) f))) (decide (leb m (length l)))
 
       pub frame-top : (top : List Term) → recalledTop (drop at store) top ≡ map termOf (part (at + 1) n store)
       frame-top top =
@@ -162,7 +173,8 @@ module _ (at : ℕ) (store : List ℕ) where
           ∙ sym (ap (λ k. cond (eqb k 0) (drop at store) (drop (suc k) (drop at store))) (sym e) ∙ ap (λ b. cond b (drop at store) (drop (suc n) (drop at store))) (ne-eqb n 0 z))
 
 -- ---- one block after another
-pub recalled-on : (store later : List ℕ) (top : List Term) (left tops : List (List Term)) → left ≡ top ∷ tops → later ≡ behind store → recalled store left ≡ recalledTop store top ∷ recalled later tops
+pub recalled-on : (store later : List ℕ) (top : List Term) (left tops : List (List Term)) → left ≡ top ∷ tops → later ≡ behind store
+    → recalled store left ≡ recalledTop store top ∷ recalled later tops
 unfolding recalled
 recalled-on store later top left tops e w = ap (recalled store) e ∙ ap (λ s. recalledTop store top ∷ recalled s tops) (sym w)
 

@@ -132,17 +132,21 @@ returns c =
     let at-shorter = shorter-of at-lay in
     let start = start-of at-shorter in
     let a = start .args in
-    let output = passed (a .dimension) (at-shorter .shorter .result) (a .strategy) (documents (a .offsets .now) (a .components .now) (a .values .now)) (a .order .now) (a .blocks .now) (a .store .now) (a .keys .now) (a .places .now) (a .maxima .now) (a .entry-counts .now) (at-lay .lay .last .0) (written (a .postings .now) (a .block-offsets .now) (a .summary-components .now) (a .component-offsets .now)
+    let output = passed (a .dimension) (at-shorter .shorter .result) (a .strategy) (documents (a .offsets .now) (a .components .now) (a .values .now)) (a .order .now) (a .blocks .now)
+    (a .store .now) (a .keys .now) (a .places .now) (a .maxima .now) (a .entry-counts .now) (at-lay .lay .last .0) (written (a .postings .now) (a .block-offsets .now) (a .summary-components .now) (a .component-offsets .now)
     (a .summary-ids .now) (a .codes .now)) (at-shorter .shorter .ensures) (at-lay .lay .kept .0) (at-lay .lay .ensures .0) (filling (at-fill .fill .last .1 .1 .1 .1 .1 .1 .1 .0) (at-fill .fill .last .1 .1 .1 .1 .1 .1 .1 .1 .0) (at-fill .fill .last .1 .1 .1 .1 .1 .1 .1 .1 .1 .0) (lent (at-fill .fill .last .1 .1 .1 .1 .1 .1 .1 .1 .1 .1 .0)
     (at-fill .fill .last .1 .1 .1 .1 .1 .1 .1 .1 .1 .1 .1 .0) (at-fill .fill .last .1 .1 .1 .1 .1 .1 .1 .1 .1 .1 .1 .1 .0))) (at-fill .fill .ensures) (at-write-postings .write-postings .last .1 .1 .0) (at-write-offsets .write-offsets .last .1 .0) (at-lay .lay .last .1 .0) (at-lay .lay .last .1 .1 .0) (at-write-postings .write-postings .ensures)
     (at-write-offsets .write-offsets .ensures) (at-lay .lay .ensures .1 .0) (at-lay .lay .ensures .1 .1) in
-    let keys = passed-keys (a .dimension) (at-shorter .shorter .result) (a .strategy) (documents (a .offsets .now) (a .components .now) (a .values .now)) (a .order .now) (a .blocks .now) (a .store .now) (a .keys .now) (a .places .now) (a .maxima .now) (a .entry-counts .now) (at-lay .lay .last .0) (written (a .postings .now) (a .block-offsets .now) (a .summary-components .now) (a .component-offsets .now)
+    let keys = passed-keys (a .dimension) (at-shorter .shorter .result) (a .strategy) (documents (a .offsets .now) (a .components .now) (a .values .now)) (a .order .now) (a .blocks .now)
+    (a .store .now) (a .keys .now) (a .places .now) (a .maxima .now) (a .entry-counts .now) (at-lay .lay .last .0) (written (a .postings .now) (a .block-offsets .now) (a .summary-components .now) (a .component-offsets .now)
     (a .summary-ids .now) (a .codes .now)) (at-shorter .shorter .ensures) (at-lay .lay .kept .0) (at-lay .lay .ensures .0) (filling (at-fill .fill .last .1 .1 .1 .1 .1 .1 .1 .0) (at-fill .fill .last .1 .1 .1 .1 .1 .1 .1 .1 .0) (at-fill .fill .last .1 .1 .1 .1 .1 .1 .1 .1 .1 .0) (lent (at-fill .fill .last .1 .1 .1 .1 .1 .1 .1 .1 .1 .1 .0)
     (at-fill .fill .last .1 .1 .1 .1 .1 .1 .1 .1 .1 .1 .1 .0) (at-fill .fill .last .1 .1 .1 .1 .1 .1 .1 .1 .1 .1 .1 .1 .0))) (at-fill .fill .ensures) in
-    let places = passed-places (a .dimension) (at-shorter .shorter .result) (a .strategy) (documents (a .offsets .now) (a .components .now) (a .values .now)) (a .order .now) (a .blocks .now) (a .store .now) (a .keys .now) (a .places .now) (a .maxima .now) (a .entry-counts .now) (at-lay .lay .last .0) (written (a .postings .now) (a .block-offsets .now) (a .summary-components .now) (a .component-offsets .now)
+    let places = passed-places (a .dimension) (at-shorter .shorter .result) (a .strategy) (documents (a .offsets .now) (a .components .now) (a .values .now)) (a .order .now) (a .blocks .now)
+    (a .store .now) (a .keys .now) (a .places .now) (a .maxima .now) (a .entry-counts .now) (at-lay .lay .last .0) (written (a .postings .now) (a .block-offsets .now) (a .summary-components .now) (a .component-offsets .now)
     (a .summary-ids .now) (a .codes .now)) (at-shorter .shorter .ensures) (at-lay .lay .kept .0) (at-lay .lay .ensures .0) (filling (at-fill .fill .last .1 .1 .1 .1 .1 .1 .1 .0) (at-fill .fill .last .1 .1 .1 .1 .1 .1 .1 .1 .0) (at-fill .fill .last .1 .1 .1 .1 .1 .1 .1 .1 .1 .0) (lent (at-fill .fill .last .1 .1 .1 .1 .1 .1 .1 .1 .1 .1 .0)
     (at-fill .fill .last .1 .1 .1 .1 .1 .1 .1 .1 .1 .1 .1 .0) (at-fill .fill .last .1 .1 .1 .1 .1 .1 .1 .1 .1 .1 .1 .1 .0))) (at-fill .fill .ensures) in
-    let maxima = passed-maxima (a .dimension) (at-shorter .shorter .result) (a .strategy) (documents (a .offsets .now) (a .components .now) (a .values .now)) (a .order .now) (a .blocks .now) (a .store .now) (a .keys .now) (a .places .now) (a .maxima .now) (a .entry-counts .now) (at-lay .lay .last .0) (written (a .postings .now) (a .block-offsets .now) (a .summary-components .now) (a .component-offsets .now)
+    let maxima = passed-maxima (a .dimension) (at-shorter .shorter .result) (a .strategy) (documents (a .offsets .now) (a .components .now) (a .values .now)) (a .order .now) (a .blocks .now)
+    (a .store .now) (a .keys .now) (a .places .now) (a .maxima .now) (a .entry-counts .now) (at-lay .lay .last .0) (written (a .postings .now) (a .block-offsets .now) (a .summary-components .now) (a .component-offsets .now)
     (a .summary-ids .now) (a .codes .now)) (at-shorter .shorter .ensures) (at-lay .lay .kept .0) (at-lay .lay .ensures .0) (filling (at-fill .fill .last .1 .1 .1 .1 .1 .1 .1 .0) (at-fill .fill .last .1 .1 .1 .1 .1 .1 .1 .1 .0) (at-fill .fill .last .1 .1 .1 .1 .1 .1 .1 .1 .1 .0) (lent (at-fill .fill .last .1 .1 .1 .1 .1 .1 .1 .1 .1 .1 .0)
     (at-fill .fill .last .1 .1 .1 .1 .1 .1 .1 .1 .1 .1 .1 .0) (at-fill .fill .last .1 .1 .1 .1 .1 .1 .1 .1 .1 .1 .1 .1 .0))) (at-fill .fill .ensures) in
     let counts = passed-counts (a .entry-counts .now) (at-lay .lay .last .0) (at-fill .fill .last .1 .1 .1 .1 .1 .1 .1 .1 .1 .1 .0) (at-clear-u64 .clear-u64 .last .0) (at-shorter .shorter .result) (at-lay .lay .kept .0) (at-fill .fill .kept .1 .1 .1 .1 .1 .1 .1 .1 .1 .1 .0) (at-clear-u64 .clear-u64 .ensures) in
