@@ -1,3 +1,4 @@
+pub mod Climbing
 pub mod Arrays
 pub mod Checks
 pub mod Rising

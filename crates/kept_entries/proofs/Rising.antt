@@ -13,7 +13,7 @@ use Rattle.sequences.specs.Laws.Lists.{both, decide}
 use Rattle.kept_list.specs.declared.Scored.{Scored}
 use Rattle.kept_list.specs.Entry.{better}
 use Rattle.kept_list.specs.Lent.{entryAt, packedOf, scoreOf, inserted}
-use Rattle.kept_list.proofs.Climbing.{Climbing, climb-start, climb-up, climb-stay, climb-top, laid-down}
+use Rattle.kept_entries.proofs.Climbing.{Climbing, climb-start, climb-up, climb-stay, climb-top, laid-down}
 use Rattle.kept_entries.specs.Entries.{noEntry, asLent}
 
 -- ---- a column of the entries

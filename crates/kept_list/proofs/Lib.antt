@@ -1,3 +1,3 @@
-pub mod Climbing
+pub mod Laying
+pub mod Placing
 pub mod Settling
-pub mod Passing

@@ -4,7 +4,7 @@ pub mod Entry
 pub mod Lent
 pub mod Laid
 pub mod Place
-pub mod Fours
+pub mod Inserting
 pub mod Push
 pub mod WellKept
 pub mod Told

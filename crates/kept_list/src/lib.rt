@@ -1,13 +1,14 @@
 // The kept list: the k best ranges found so far, best first. It lies in lent memory as two slices side by side, packed
 // numbers and scores, with the number of entries beside them. A push with its refusals stands in crate kept_push.
 ghost use mathlib.Core.Path.{_≡_};
-ghost use Prim.Native.Nat.{_≤_, _<_, _+_};
+ghost use Prim.Native.Nat.{_≤_, _<_, _+_, _-_};
 ghost use lib.ListN.{length as len};
-ghost use lib.Ieee.{nan};
+ghost use lib.Ieee.{lt};
+ghost use Rattle.sequences.specs.Lists.{every};
 ghost use Rattle.kept_list.specs.Entry.{scored, better as isBetter};
 ghost use Rattle.kept_list.specs.Lent.{lent, inserted, settled};
 ghost use Rattle.kept_list.specs.Place.{Placed};
-ghost use Rattle.kept_list.specs.Fours.{fourBelow, Fitting, fourPassed};
+ghost use Rattle.kept_list.specs.Inserting.{Fitting, Worse, movedDown, Found};
 
 // A range found, with its score.
 pub struct Scored {
@@ -32,102 +33,148 @@ impl Scored {
     }
 }
 
-// Whether the four scores right above a place are all below x: an entry with score x is better than those four. That the scores are
-// values of the format is said for whoever relies on it.
-fn four_below(i: usize, scores: &[f32], x: f32) -> bool
-    requires { ⌜ (4 ≤ i) × (i < len (now scores)) ⌝ }
-    ensures answer { λ r. ⌜ r ≡ fourBelow x i (now (scores .entry)) ⌝ }
+// Whether each score is below x: an entry with score x is better than one with any of them. That the scores are values of the format is
+// said for whoever relies on it. The loop leaves at no score, so that the compiler can take several at once.
+fn all_below(scores: &[f32], x: f32) -> bool
+    ensures answer { λ r. ⌜ r ≡ every (λ y. lt y x) (now (scores .entry)) ⌝ }
     ensures fits { λ r. ⌜ Fitting x (now (scores .entry)) ⌝ }
 {
-    let a = i - 1;
-    let b = i - 2;
-    let c = i - 3;
-    let d = i - 4;
-    (scores[a] < x) & ((scores[b] < x) & ((scores[c] < x) & (scores[d] < x)))
+    let mut ok = true;
+    let mut i = 0usize;
+    while i < scores.len() {
+        ok = ok & (scores[i] < x);
+        i += 1;
+    }
+    ok
 }
 
-// The four packed numbers above a place go down by one, and p is laid above them. The four are read before a place is written, so that
-// the compiler can move them together.
-fn pass_packed(i: usize, packed: &mut [u64], p: u64)
-    requires { ⌜ (4 ≤ i) × (i < len (now packed)) ⌝ }
-    ensures { λ _. ⌜ now (packed .exit) ≡ fourPassed 0 p i (now (packed .entry)) ⌝ }
+// The eight packed numbers right above a place go down by one. The eight are read before a place is written, so that the compiler can move
+// them together.
+fn down_packed(i: usize, packed: &mut [u64])
+    requires { ⌜ (8 ≤ i) × (i < len (now packed)) ⌝ }
+    ensures { λ _. ⌜ now (packed .exit) ≡ movedDown (i - 8) i (now (packed .entry)) ⌝ }
 {
-    let a = i - 1;
-    let b = i - 2;
-    let c = i - 3;
-    let d = i - 4;
-    let p1 = packed[a];
-    let p2 = packed[b];
-    let p3 = packed[c];
-    let p4 = packed[d];
+    let a1 = i - 1;
+    let a2 = i - 2;
+    let a3 = i - 3;
+    let a4 = i - 4;
+    let a5 = i - 5;
+    let a6 = i - 6;
+    let a7 = i - 7;
+    let a8 = i - 8;
+    let p1 = packed[a1];
+    let p2 = packed[a2];
+    let p3 = packed[a3];
+    let p4 = packed[a4];
+    let p5 = packed[a5];
+    let p6 = packed[a6];
+    let p7 = packed[a7];
+    let p8 = packed[a8];
     packed[i] = p1;
-    packed[a] = p2;
-    packed[b] = p3;
-    packed[c] = p4;
-    packed[d] = p;
+    packed[a1] = p2;
+    packed[a2] = p3;
+    packed[a3] = p4;
+    packed[a4] = p5;
+    packed[a5] = p6;
+    packed[a6] = p7;
+    packed[a7] = p8;
 }
 
-// The same of four scores.
-fn pass_scores(i: usize, scores: &mut [f32], x: f32)
-    requires { ⌜ (4 ≤ i) × (i < len (now scores)) ⌝ }
-    ensures { λ _. ⌜ now (scores .exit) ≡ fourPassed nan x i (now (scores .entry)) ⌝ }
+// The same of eight scores.
+fn down_scores(i: usize, scores: &mut [f32])
+    requires { ⌜ (8 ≤ i) × (i < len (now scores)) ⌝ }
+    ensures { λ _. ⌜ now (scores .exit) ≡ movedDown (i - 8) i (now (scores .entry)) ⌝ }
 {
-    let a = i - 1;
-    let b = i - 2;
-    let c = i - 3;
-    let d = i - 4;
-    let x1 = scores[a];
-    let x2 = scores[b];
-    let x3 = scores[c];
-    let x4 = scores[d];
+    let a1 = i - 1;
+    let a2 = i - 2;
+    let a3 = i - 3;
+    let a4 = i - 4;
+    let a5 = i - 5;
+    let a6 = i - 6;
+    let a7 = i - 7;
+    let a8 = i - 8;
+    let x1 = scores[a1];
+    let x2 = scores[a2];
+    let x3 = scores[a3];
+    let x4 = scores[a4];
+    let x5 = scores[a5];
+    let x6 = scores[a6];
+    let x7 = scores[a7];
+    let x8 = scores[a8];
     scores[i] = x1;
-    scores[a] = x2;
-    scores[b] = x3;
-    scores[c] = x4;
-    scores[d] = x;
+    scores[a1] = x2;
+    scores[a2] = x3;
+    scores[a3] = x4;
+    scores[a4] = x5;
+    scores[a5] = x6;
+    scores[a6] = x7;
+    scores[a7] = x8;
 }
 
-// The entry at a place is exchanged with the four above it at once: each goes down by one.
-fn pass_four(i: usize, packed: &mut [u64], scores: &mut [f32], e: Scored)
-    requires { ⌜ (4 ≤ i) × (i < len (now packed)) × (i < len (now scores)) ⌝ }
-    ensures packed { λ _. ⌜ now (packed .exit) ≡ fourPassed 0 (e .packed) i (now (packed .entry)) ⌝ }
-    ensures scores { λ _. ⌜ now (scores .exit) ≡ fourPassed nan (e .score) i (now (scores .entry)) ⌝ }
-{
-    pass_packed(i, packed, e.packed);
-    pass_scores(i, scores, e.score);
-}
-
-// The entry is laid down at a place and goes up past the worse ones right above it, exchanged with four at once where their scores are
-// all below its own, and else with one.
-fn insert(at: usize, packed: &mut [u64], scores: &mut [f32], e: Scored)
+// From a place up past eight entries at once, as long as their scores are all below the new one's: each goes down by one.
+fn pass_eights(at: usize, packed: &mut [u64], scores: &mut [f32], e: Scored) -> usize
     requires { ⌜ (at < len (now packed)) × (at < len (now scores)) ⌝ }
-    ensures { λ _. ⌜ lent (at + 1) (now (packed .exit)) (now (scores .exit)) ≡ inserted e (lent at (now (packed .entry)) (now (scores .entry))) ⌝ }
+    ensures packed { λ r. ⌜ now (packed .exit) ≡ movedDown r at (now (packed .entry)) ⌝ }
+    ensures scores { λ r. ⌜ now (scores .exit) ≡ movedDown r at (now (scores .entry)) ⌝ }
+    ensures passed { λ r. ⌜ Worse e at (now (packed .entry)) (now (scores .entry)) r ⌝ }
 {
-    packed[at] = e.packed;
-    scores[at] = e.score;
+    let mut i = at;
+    while 8 <= i {
+        let from = i - 8;
+        if !all_below(&scores[from..i], e.score) {
+            return i;
+        }
+        down_packed(i, packed);
+        down_scores(i, scores);
+        i = from;
+    }
+    i
+}
+
+// Whether the new entry is better than one above it. Mostly one look at the scores tells.
+fn passes(e: Scored, above: Scored) -> bool
+    ensures { λ r. ⌜ r ≡ isBetter e above ⌝ }
+{
+    if above.score < e.score {
+        return true;
+    }
+    e.better(above)
+}
+
+// From a place up past one entry at a time, as long as it is worse: each goes down by one.
+fn pass_worse(at: usize, packed: &mut [u64], scores: &mut [f32], e: Scored) -> usize
+    requires { ⌜ (at < len (now packed)) × (at < len (now scores)) ⌝ }
+    ensures packed { λ r. ⌜ now (packed .exit) ≡ movedDown r at (now (packed .entry)) ⌝ }
+    ensures scores { λ r. ⌜ now (scores .exit) ≡ movedDown r at (now (scores .entry)) ⌝ }
+    ensures place { λ r. ⌜ Found e at (now (packed .entry)) (now (scores .entry)) r ⌝ }
+{
     let mut i = at;
     while 0 < i {
-        if 4 <= i {
-            if four_below(i, scores, e.score) {
-                pass_four(i, packed, scores, e);
-                i = i - 4;
-                continue;
-            }
-        }
         let j = i - 1;
         let above = Scored {
             packed: packed[j],
             score: scores[j],
         };
-        if !e.better(above) {
-            return;
+        if !passes(e, above) {
+            return i;
         }
         packed[i] = above.packed;
         scores[i] = above.score;
-        packed[j] = e.packed;
-        scores[j] = e.score;
         i = j;
     }
+    i
+}
+
+// The worse entries right above a place go down by one, eight at once where their scores are all below the new one's, and else one by one;
+// the new entry is laid down above them.
+fn insert(at: usize, packed: &mut [u64], scores: &mut [f32], e: Scored)
+    requires { ⌜ (at < len (now packed)) × (at < len (now scores)) ⌝ }
+    ensures { λ _. ⌜ lent (at + 1) (now (packed .exit)) (now (scores .exit)) ≡ inserted e (lent at (now (packed .entry)) (now (scores .entry))) ⌝ }
+{
+    let i = pass_eights(at, packed, scores, e);
+    let place = pass_worse(i, packed, scores, e);
+    packed[place] = e.packed;
+    scores[place] = e.score;
 }
 
 // Where an entry is laid down before it goes up.
@@ -165,7 +212,7 @@ fn find_place(k: u64, length: u64, packed: &[u64], scores: &[f32], e: Scored) ->
 
 // A push without its refusals. Below k the entry is added; at k it replaces the worst one only if it is better.
 // Nothing changes where more than k are kept or there is no room.
-// At k an entry that is not better costs one comparison; any other is exchanged with each worse one.
+// At k an entry that is not better costs one comparison; any other is laid down once, and each worse one is moved down by one.
 pub fn settle(k: u64, length: &mut u64, packed: &mut [u64], scores: &mut [f32], e: Scored)
     ensures { λ _. ⌜ lent (now (length .exit)) (now (packed .exit)) (now (scores .exit))
         ≡ settled k e (lent (now (length .entry)) (now (packed .entry)) (now (scores .entry))) ⌝ }

@@ -3,15 +3,15 @@ use Prim.Native.Nat.{ℕ, zero, suc, _≤_, _<_, min}
 use native.Mathlib.Omega.{arith}
 use mathlib.Core.Path.{_≡_, refl, sym, ap, _∙_}
 use mathlib.Core.List.{List, [], _∷_, _++_, map}
-use lib.ListN.{length, take, drop, length-drop, length-append, length-map, take-append-drop}
+use lib.ListN.{length, getD, take, drop, length-drop, length-append, length-map, take-append-drop}
 use lib.Seq.{take-at, drop-nil}
 use lib.Ieee.{Float}
 use borrow.Author.Tests.{le-leb}
 use Rattle.kept_list.specs.declared.Scored.{Scored}
-use Rattle.kept_list.specs.Keep.{keep, keepAll}
-use Rattle.kept_list.specs.Laws.Pushing.{length-keep}
+use Rattle.kept_list.specs.Keep.{insertAfter, keep, keepAll}
+use Rattle.kept_list.specs.Laws.Pushing.{length-insert, length-keep}
 use Rattle.kept_list.specs.Entry.{scored, better}
-use Rattle.kept_list.specs.Lent.{Lent, lent, entryAt, packedOf, scoreOf, beside, entries, written, settled}
+use Rattle.kept_list.specs.Lent.{Lent, lent, entryAt, packedOf, scoreOf, beside, entries, written, inserted, settled}
 use Rattle.kept_list.specs.Laid.{RoomFor, settleAll}
 
 -- ---- the entries of two slices
@@ -21,6 +21,13 @@ beside-snoc j [] xs h k = absurd (omega arith)
 beside-snoc j (p ∷ ps) [] h k = absurd (omega arith)
 beside-snoc zero (p ∷ ps) (x ∷ xs) h k = refl
 beside-snoc (suc j) (p ∷ ps) (x ∷ xs) h k = ap (λ (l : List Scored). scored p x ∷ l) (beside-snoc j ps xs (omega arith) (omega arith))
+
+pub entry-at : (d : Scored) (n j : ℕ) (ps : List ℕ) (xs : List Float) → j < n → n ≤ length ps → n ≤ length xs → getD (beside (take n ps) (take n xs)) j d ≡ entryAt j ps xs
+entry-at d zero j ps xs l h k = absurd (omega arith)
+entry-at d (suc n) j [] xs l h k = absurd (omega arith)
+entry-at d (suc n) j (p ∷ ps) [] l h k = absurd (omega arith)
+entry-at d (suc n) zero (p ∷ ps) (x ∷ xs) l h k = refl
+entry-at d (suc n) (suc j) (p ∷ ps) (x ∷ xs) l h k = entry-at d n j ps xs (omega arith) (omega arith) (omega arith)
 
 pub packed-beside : (j : ℕ) (ps : List ℕ) (xs : List Float) → j ≤ length ps → j ≤ length xs → map packedOf (beside (take j ps) (take j xs)) ≡ take j ps
 packed-beside zero ps xs h k = refl
@@ -107,3 +114,14 @@ settle-all k l (p ∷ ps) r =
     ∙ settle-all k (written es l) ps (room-written k es l n r)
     ∙ ap (λ m. written (keepAll better k m ps) (written es l)) (entries-written es l)
     ∙ written-over (keepAll better k es ps) es l (keepAll-more k es ps n)
+
+-- ---- e among the entries
+-- one column: the entries with e among them, and what lies past them
+abbrev pub column : {B : Type 0} → (Scored → B) → Scored → List Scored → ℕ → List B → List B
+column f e es i c = map f (insertAfter better e es) ++ drop (suc i) c
+
+pub inserted-is : (e : Scored) (i : ℕ) (ps : List ℕ) (xs : List Float) → i ≤ length ps → i ≤ length xs
+    → inserted e (lent i ps xs) ≡ lent (suc i) (column packedOf e (entries (lent i ps xs)) i ps) (column scoreOf e (entries (lent i ps xs)) i xs)
+inserted-is e i ps xs h k =
+    let n : length (insertAfter better e (entries (lent i ps xs))) ≡ suc i = length-insert better e (entries (lent i ps xs)) ∙ ap suc (length-beside i ps xs h k) in
+    ap (λ (m : ℕ). lent m (map packedOf (insertAfter better e (entries (lent i ps xs))) ++ drop m ps) (map scoreOf (insertAfter better e (entries (lent i ps xs))) ++ drop m xs)) n

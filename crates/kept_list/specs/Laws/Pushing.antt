@@ -1,10 +1,10 @@
 -- Pushing, under any test `better`: nothing here asks that it is an order.
-use Prim.Native.Nat.{ℕ, zero, suc, _<_, min}
+use Prim.Native.Nat.{ℕ, zero, suc, _≤_, _<_, min}
 use native.Mathlib.Omega.{arith}
-use mathlib.Core.Bool.{Bool, true, false, _&&_, cond}
+use mathlib.Core.Bool.{Bool, true, false, _&&_, cond, and-false}
 use mathlib.Core.Path.{_≡_, refl, sym, ap, _∙_}
 use mathlib.Core.List.{List, [], _∷_, _++_, append-assoc}
-use lib.ListN.{length, take, length-take, length-append}
+use lib.ListN.{length, getD, take, drop, length-take, length-append}
 use lib.Seq.{take-all, take-take, take-at}
 use Rattle.kept_list.specs.Keep.{beats, insertAfter, keep}
 
@@ -41,6 +41,22 @@ module _ {A : Type 0} (better : A → A → Bool) where
           → cond (b && beats better e (fs ++ (w ∷ []))) (e ∷ f ∷ fs ++ (w ∷ [])) (f ∷ insertAfter better e (fs ++ (w ∷ []))) ≡ f ∷ fs ++ (w ∷ e ∷ [])
       go true n i = cc
       go false n i = cc
+
+  -- not better than one of the entries: not better than all
+  not-beats : (e d : A) (l : List A) (j : ℕ) → j < length l → better e (getD l j d) ≡ false → beats better e l ≡ false
+  not-beats e d [] j h n = absurd (omega arith)
+  not-beats e d (f ∷ fs) zero h n = rw n
+  not-beats e d (f ∷ fs) (suc j) h n = ap (λ b. better e f && b) (not-beats e d fs j (omega arith) n) ∙ and-false (better e f)
+
+  -- better than all from a place on, and not better than the one right above it: at that place
+  pub insert-at : (e d : A) (l : List A) (r : ℕ) → r ≤ length l → beats better e (drop r l) ≡ true → ((j : ℕ) → r ≡ suc j → better e (getD l j d) ≡ false)
+      → insertAfter better e l ≡ take r l ++ (e ∷ drop r l)
+  insert-at e d [] zero h b n = refl
+  insert-at e d [] (suc r) h b n = absurd (omega arith)
+  insert-at e d (f ∷ fs) zero h b n = rw b
+  insert-at e d (f ∷ fs) (suc r) h b n =
+      let m : beats better e (f ∷ fs) ≡ false = not-beats e d (f ∷ fs) r (omega arith) (n r refl) in
+      rw m (ap (λ l. f ∷ l) (insert-at e d fs r (omega arith) b (λ j q. n (suc j) (ap suc q))))
 
   -- at k, what is not better than the worst changes nothing
   pub keep-none : (k : ℕ) (e w : A) (l : List A) → length (l ++ (w ∷ [])) ≡ k → better e w ≡ false → keep better k e (l ++ (w ∷ [])) ≡ l ++ (w ∷ [])

@@ -4,31 +4,18 @@ use native.Mathlib.Omega.{arith}
 use native.Mathlib.Numerals.{add-one}
 use mathlib.Core.Path.{_≡_, refl, sym, ap, _∙_}
 use mathlib.Core.Bool.{true, false}
-use mathlib.Core.List.{List, [], _∷_, _++_, map, append-assoc}
+use mathlib.Core.List.{List, [], _∷_, _++_, map, map-append, append-assoc}
 use lib.ListN.{length, getD, set, take, drop, length-set}
 use lib.Seq.{take-set-le, drop-set-lt, drop-cons, getD-set-same, split-at, lt-length-set}
 use lib.Ieee.{Float, nan}
 use Rattle.kept_list.specs.declared.Scored.{Scored}
 use Rattle.kept_list.specs.Keep.{insertAfter}
-use Rattle.kept_list.specs.Laws.Pushing.{length-insert, insert-last, insert-before-last}
+use Rattle.kept_list.specs.Laws.Pushing.{insert-last, insert-before-last}
 use Rattle.kept_list.specs.Entry.{better}
-use Rattle.kept_list.specs.Laws.Laid.{beside-snoc, packed-beside, scores-beside, length-beside}
+use Rattle.kept_list.specs.Laws.Laid.{beside-snoc, packed-beside, scores-beside, column, inserted-is}
 use Rattle.kept_list.specs.Lent.{lent, entryAt, packedOf, scoreOf, entries, inserted}
 
--- ---- one column: the first entries with e among them, and what lies below
-abbrev pub column : {B : Type 0} → (Scored → B) → Scored → List Scored → ℕ → List B → List B
-column f e es i c = map f (insertAfter better e es) ++ drop (suc i) c
-
-pub inserted-is : (e : Scored) (i : ℕ) (ps : List ℕ) (xs : List Float) → i ≤ length ps → i ≤ length xs
-    → inserted e (lent i ps xs) ≡ lent (suc i) (column packedOf e (entries (lent i ps xs)) i ps) (column scoreOf e (entries (lent i ps xs)) i xs)
-inserted-is e i ps xs h k =
-    let n : length (insertAfter better e (entries (lent i ps xs))) ≡ suc i = length-insert better e (entries (lent i ps xs)) ∙ ap suc (length-beside i ps xs h k) in
-    ap (λ (m : ℕ). lent m (map packedOf (insertAfter better e (entries (lent i ps xs))) ++ drop m ps) (map scoreOf (insertAfter better e (entries (lent i ps xs))) ++ drop m xs)) n
-
-map-append : {B : Type 0} (f : Scored → B) (l m : List Scored) → map f (l ++ m) ≡ map f l ++ map f m
-map-append f [] m = refl
-map-append f (a ∷ l) m = ap (λ r. f a ∷ r) (map-append f l m)
-
+-- ---- one column
 take-two : {B : Type 0} (c : List B) (j : ℕ) (v u : B) → take j (set (set c (suc j) v) j u) ≡ take j c
 take-two c j v u = take-set-le j (set c (suc j) v) j u (omega arith) ∙ take-set-le j c (suc j) v (omega arith)
 
