@@ -5,8 +5,8 @@ use mathlib.Core.List.{List, [], _∷_}
 use Prim.Native.Nat.{ℕ, suc, _+_, _-_, _≤_, _<_}
 use native.Mathlib.Omega.{arith}
 use native.Mathlib.Numerals.{add-one}
-use lib.ListN.{length, getD, drop, length-drop, drop-of-length-le}
-use lib.Seq.{drop-cons}
+use lib.ListN.{length, getD, take, drop, length-drop, drop-of-length-le}
+use lib.Seq.{drop-cons, drop-drop, take-all}
 use lib.Dec.{leb, ltb}
 use lib.Ieee.{Float, binary32, ofBits, neg, le}
 use mir.Val.{boolByte}
@@ -14,7 +14,9 @@ use borrow.Author.Tests.{ltb-true, ltb-false, le-ltb, le-leb, lt-leb}
 use Rattle.float32.specs.Laws.BoundLaws.{in-bound-tests}
 use Rattle.quantizing.specs.Quantizing.{stepAllowed}
 use Rattle.sequences.specs.Lists.{every, neverFalls, strictlyRise}
+use Rattle.sequences.specs.Laws.Lists.{part-length}
 use Rattle.search_checks.specs.Counting.{fall, falls, seamAt, seams}
+use Rattle.search_checks.specs.Laws.Counting.{falls-over, falls-few}
 
 -- ---- each element by itself
 module _ {A : Type 0} (p : A → Bool) (xs : List A) (d : A) where
@@ -114,3 +116,21 @@ module _ (xs : List ℕ) (n i : ℕ) (low : 1 ≤ i) where
 
   pub seams-end : (ids : List ℕ) (r : ℕ) → length xs ≤ i → n + seams ids (drop (i - 1) xs) ≡ r → n ≡ r
   seams-end ids r h e = let z = seams-short ids (drop (i - 1) xs) (few-left xs i 0 low h) in omega arith
+
+-- ---- falls counted part by part: the next part starts with the last id of this one
+module _ (xs : List ℕ) (i e r : ℕ) (l : i ≤ e) (h : e ≤ length xs) (f : r ≡ falls (take (e - i) (drop i xs))) where
+  pub part-few : r ≤ e - i - 1
+  part-few = omega (arith, falls-few (take (e - i) (drop i xs)), part-length i (e - i) xs (omega arith))
+
+  pub falls-part : (n : ℕ) → i < e → n + falls (drop i xs) ≡ falls xs → (n + r) + falls (drop (e - 1) xs) ≡ falls xs
+  falls-part n m g =
+      let s : suc (e - i - 1) ≡ e - i = omega arith in
+      let t : i + (e - i - 1) ≡ e - 1 = omega arith in
+      let a : falls (drop i xs) ≡ falls (take (e - i) (drop i xs)) + falls (drop (e - i - 1) (drop i xs)) = rw s at (falls-over (e - i - 1) (drop i xs)) in
+      let b : falls (drop (e - i - 1) (drop i xs)) ≡ falls (drop (e - 1) xs) = ap falls (drop-drop (e - i - 1) i xs ∙ ap (λ k. drop k xs) t) in
+      omega arith
+
+  pub falls-rest : (n : ℕ) → e ≡ length xs → n + falls (drop i xs) ≡ falls xs → n + r ≡ falls xs
+  falls-rest n z g =
+      let a : falls (take (e - i) (drop i xs)) ≡ falls (drop i xs) = ap falls (take-all (e - i) (drop i xs) (omega (arith, length-drop i xs))) in
+      omega arith

@@ -4,6 +4,7 @@ use blocking::limits::too_many_blocks;
 ghost use mathlib.Core.Path.{_≡_};
 ghost use Prim.Native.Nat.{_≤_};
 ghost use lib.Dec.{ltb};
+ghost use lib.ListN.{length as len};
 ghost use Rattle.sequences.specs.Lists.{every, neverFalls, strictlyRise};
 ghost use Rattle.quantizing.specs.Quantizing.{minimumAllowed, stepAllowed};
 ghost use Rattle.sparse_scores.specs.Layout.{arrays};
@@ -93,18 +94,37 @@ fn steps_hold(steps: &[f32]) -> bool
     ok
 }
 
-// How many ids do not lie above the one before them.
-fn count_falls(summary_ids: &[u16]) -> u64
+// How many of few ids do not lie above the one before them: counted in as many bits as an id has, so that the compiler can take many at once.
+fn count_few_falls(summary_ids: &[u16]) -> u16
+    requires { ⌜ len (now «summary_ids») ≤ 65536 ⌝ }
     ensures { λ r. ⌜ r ≡ falls (now («summary_ids» .entry)) ⌝ }
 {
-    let mut count = 0u64;
+    let mut count = 0u16;
     let mut i = 1usize;
     while i < summary_ids.len() {
         let p = i - 1;
-        count += (summary_ids[i] <= summary_ids[p]) as u64;
+        count += (summary_ids[i] <= summary_ids[p]) as u16;
         i += 1;
     }
     count
+}
+
+// The most ids whose falls 16 bits can count.
+const FEW: usize = 65536;
+
+// How many ids do not lie above the one before them: part by part, where each part starts with the last id of the one before.
+fn count_falls(summary_ids: &[u16]) -> u64
+    ensures { λ r. ⌜ r ≡ falls (now («summary_ids» .entry)) ⌝ }
+{
+    let n = summary_ids.len();
+    let mut count = 0u64;
+    let mut i = 0usize;
+    while FEW < n - i {
+        let end = i + FEW;
+        count += count_few_falls(&summary_ids[i..end]) as u64;
+        i = end - 1;
+    }
+    count + count_few_falls(&summary_ids[i..n]) as u64
 }
 
 // 1 where a component's first entry, at the offset `at`, does not lie above the entry before it; 0 where the component before it has no

@@ -9,7 +9,7 @@ use Rattle.sequences.specs.Lists.{every, between, firstOr, lastOr, part, neverF
 use Rattle.sequences.specs.Laws.Lists.{both}
 use mathlib.Core.List.{List, [], _∷_}
 use lib.ListN.{length, getD, take, drop, length-drop}
-use lib.Seq.{drop-length, drop-drop, getD-drop}
+use lib.Seq.{drop-nil, drop-length, drop-drop, getD-drop}
 use lib.Dec.{leb, ltb, eqb}
 use Rattle.search_checks.specs.Counting.{fall, falls, seamAt, seams}
 
@@ -61,6 +61,29 @@ cut (suc (suc k)) (x ∷ y ∷ xs) =
         → falls (x ∷ y ∷ take k xs) ≡ fall x y + falls (y ∷ take k xs)
         → falls (x ∷ y ∷ xs) ≡ falls (x ∷ y ∷ take k xs) + (between-parts (suc (suc k)) (x ∷ y ∷ xs) + falls (drop k xs))
     joined a b c d = omega arith
+
+-- two parts that share an id: the falls of both
+pub falls-over : (k : ℕ) (xs : List ℕ) → falls xs ≡ falls (take (suc k) xs) + falls (drop k xs)
+unfolding falls
+falls-over k [] = rw (drop-nil k)
+falls-over zero (x ∷ xs) = omega arith
+falls-over (suc k) (x ∷ []) = rw (drop-nil k)
+falls-over (suc k) (x ∷ y ∷ xs) = joined (falls-two x y xs) (falls-over k (y ∷ xs)) (falls-two x y (take k xs))
+  where
+    joined : falls (x ∷ y ∷ xs) ≡ fall x y + falls (y ∷ xs) → falls (y ∷ xs) ≡ falls (y ∷ take k xs) + falls (drop k (y ∷ xs)) → falls (x ∷ y ∷ take k xs) ≡ fall x y + falls (y ∷ take k xs)
+        → falls (x ∷ y ∷ xs) ≡ falls (x ∷ y ∷ take k xs) + falls (drop k (y ∷ xs))
+    joined a b c = omega arith
+
+-- the first id is no fall
+pub falls-few : (xs : List ℕ) → falls xs ≤ length xs - 1
+unfolding falls
+falls-few [] = omega arith
+falls-few (x ∷ []) = omega arith
+falls-few (x ∷ y ∷ xs) = go (ltb x y) (falls-few (y ∷ xs))
+  where
+    go : (b : Bool) → falls (y ∷ xs) ≤ suc (length xs) - 1 → cond b 0 1 + falls (y ∷ xs) ≤ suc (suc (length xs)) - 1
+    go true h = omega arith
+    go false h = omega arith
 
 -- the falls within the parts between offsets
 unfoldable inner : List ℕ → List ℕ → ℕ
