@@ -4,23 +4,19 @@ use native.Mathlib.Omega.{arith}
 use native.Mathlib.Numerals.{add-one}
 use mathlib.Core.Path.{_≡_, refl, sym, ap, _∙_}
 use mathlib.Core.Logic.{_⊎_, inl, inr}
-use mathlib.Core.Bool.{Bool, true, false, not, _&&_, and-true}
+use mathlib.Core.Bool.{Bool, true, false, _&&_, and-true}
 use mathlib.Core.List.{List, [], _∷_, _++_}
 use lib.ListN.{length, getD, set, take, drop, length-set}
 use lib.Seq.{take-suc, take-all, getD-take, getD-drop}
 use lib.Dec.{T}
-use lib.Ieee.{Float, nan, binary32, fits, lt, eq}
-use borrow.Author.Tests.{not-true}
+use lib.Ieee.{Float, nan, binary32, fits, lt}
 use Rattle.sequences.specs.Lists.{every}
-use Rattle.sequences.specs.Laws.Lists.{both, le-or-lt, every-each, every-append, part-length}
+use Rattle.sequences.specs.Laws.Lists.{le-or-lt, every-each, every-append, part-length}
 use Rattle.sequences.specs.Laws.Each.{each-at}
-use Rattle.float32.specs.Order.{atMost}
-use Rattle.float32.specs.Laws.Tests.{yes}
-use Rattle.float32.specs.Laws.Comparisons.{lt-by-order, lt-numbers}
 use Rattle.kept_list.specs.declared.Scored.{Scored}
 use Rattle.kept_list.specs.Keep.{beats, insertAfter}
 use Rattle.kept_list.specs.Entry.{scored, better}
-use Rattle.kept_list.specs.Laws.Entry.{better-is}
+use Rattle.kept_list.specs.Laws.Entry.{better-of-lt}
 use Rattle.kept_list.specs.Laws.Pushing.{insert-at}
 use Rattle.kept_list.specs.Lent.{lent, entryAt, entries, inserted}
 use Rattle.kept_list.specs.Laws.Laid.{length-beside, entry-at}
@@ -40,13 +36,6 @@ pub all-fit : (xs : List Float) → (0 < length xs → (k : ℕ) → T (fits bin
 unfolding fits
 all-fit [] h k = tt
 all-fit (x ∷ xs) h k = h (omega arith) k
-
--- a greater score is better
-pub better-of-lt : (e w : Scored) → T (fits binary32 (e .score)) → T (fits binary32 (w .score)) → lt (w .score) (e .score) ≡ true → better e w ≡ true
-better-of-lt e w f g h =
-    let n = lt-numbers (w .score) (e .score) (yes (lt (w .score) (e .score)) h) in
-    let p = both (not (atMost (e .score) (w .score))) (not (eq (w .score) (e .score))) (sym (lt-by-order (w .score) (e .score) g f (n .0) (n .1)) ∙ h) in
-    better-is e w f g ∙ rw (not-true (atMost (e .score) (w .score)) (p .0))
 
 -- the entries of which a part of the scores is below are worse
 part-worse : (e : Scored) (ps : List ℕ) (xs : List Float) (a i j : ℕ) → a ≤ j → j < i → i ≤ length xs → every (λ y. lt y (e .score)) (take (i - a) (drop a xs)) ≡ true

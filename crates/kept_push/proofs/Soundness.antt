@@ -4,14 +4,14 @@ use native.Mathlib.Omega.{arith}
 use native.Mathlib.Numerals.{add-one}
 use mathlib.Core.Path.{_≡_, refl, sym, ap, _∙_}
 use mathlib.Core.Logic.{inl, inr}
-use mathlib.Core.Bool.{Bool, true, false, not, _&&_, and-assoc}
+use mathlib.Core.Bool.{Bool, true, false, not, _&&_, and-true, and-assoc}
 use mathlib.Core.List.{List, [], _∷_}
 use lib.ListN.{length, getD, take, drop}
 use lib.Dec.{T, ltb, eqb}
 use lib.Ieee.{Float, nan, inf, fin, isNan, eq, up, down, fits, binary32}
 use borrow.Author.Tests.{lt-ltb, eq-eqb, not-true}
 use Rattle.sequences.specs.Lists.{every}
-use Rattle.sequences.specs.Laws.Lists.{both, decide}
+use Rattle.sequences.specs.Laws.Lists.{both, decide, le-or-lt}
 use Rattle.float32.specs.Key.{keyOf}
 use Rattle.float32.specs.Laws.Tests.{yes}
 use Rattle.float32.specs.Laws.KeyLaws.{key-of-nan, key-number, only-nan}
@@ -20,9 +20,10 @@ use Rattle.kept_list.specs.Keep.{noLater, inOrder}
 use Rattle.kept_list.specs.Order.{Order}
 use Rattle.kept_list.specs.Laws.Sorted.{none-weak}
 use Rattle.kept_list.specs.Entry.{better}
-use Rattle.kept_list.specs.Laws.Entry.{better-order}
+use Rattle.kept_list.specs.Laws.Entry.{better-order, better-of-lt}
 use Rattle.kept_list.specs.Lent.{lent, entryAt, beside, entries}
 use Rattle.kept_list.specs.Push.{isNumber, sound}
+use Rattle.kept_push.specs.Standing.{eachFrom, stands, falls, Fallen}
 
 -- ---- each entry may stand right before the next: then the list is in order
 module _ {A : Type 0} (better : A → A → Bool) (O : Order better) where
@@ -87,6 +88,31 @@ eq-self (inf false) = refl
 eq-self (fin true m e) = let h : eqb (m * up e * down e) (m * up e * down e) ≡ true = eq-eqb (m * up e * down e) (m * up e * down e) refl in rw h
 eq-self (fin false m e) = let h : eqb (m * up e * down e) (m * up e * down e) ≡ true = eq-eqb (m * up e * down e) (m * up e * down e) refl in rw h
 
+-- ---- places one after another
+module _ (p : ℕ → Bool) (to : ℕ) where
+  pub each-next : (ok t : Bool) (i : ℕ) → i < to → t ≡ p i → ((ok && t) && eachFrom p (i + 1) (to - (i + 1))) ≡ (ok && eachFrom p i (to - i))
+  each-next ok t i l e = let z : to - i ≡ suc (to - suc i) = omega arith in rw (e, add-one i, z) (and-assoc ok (p i) (eachFrom p (suc i) (to - suc i)))
+
+  pub each-end : (ok : Bool) (i : ℕ) (w : Bool) → to ≤ i → (ok && eachFrom p i (to - i)) ≡ w → ok ≡ w
+  each-end ok i w l e = let z : to - i ≡ 0 = omega arith in sym (and-true ok) ∙ rw z at e
+
+pub stands-by : (ps : List ℕ) (xs : List Float) (i : ℕ) (a e : Scored) (b : Bool) → a ≡ entryAt (i - 1) ps xs → e ≡ entryAt i ps xs → b ≡ better e a → not b ≡ stands ps xs i
+stands-by ps xs i a e b p q r = ap not (r ∙ ap (better e) p ∙ ap (λ y. better y (entryAt (i - 1) ps xs)) q)
+
+-- scores that fall belong to entries that stand
+falls-stand : (ps : List ℕ) (xs : List Float) → ((k : ℕ) → T (fits binary32 (getD xs k nan))) → (i n : ℕ) → eachFrom (falls xs) i n ≡ true → eachFrom (stands ps xs) i n ≡ true
+falls-stand ps xs f i zero h = refl
+falls-stand ps xs f i (suc n) h =
+    let s = both (falls xs i) (eachFrom (falls xs) (suc i) n) h in
+    let b = better-of-lt (entryAt (i - 1) ps xs) (entryAt i ps xs) (f (i - 1)) (f i) (s .0) in
+    rw (better-order .asym (entryAt (i - 1) ps xs) (entryAt i ps xs) b, falls-stand ps xs f (suc i) n (s .1))
+
+pub fallen-stand : (ps : List ℕ) (xs : List Float) (from to : ℕ) (r : Bool) → Fallen from to xs r → r ≡ true → true ≡ eachFrom (stands ps xs) from (to - from)
+fallen-stand ps xs from to r c h = elim (le-or-lt to from) [
+  | inl l ↦ let z : to - from ≡ 0 = omega arith in rw z
+  | inr l ↦ sym (falls-stand ps xs (c .fit l) from (to - from) (sym (c .answer) ∙ h))
+]
+
 -- ---- the pass
 drop-beside : (n i : ℕ) (ps : List ℕ) (xs : List Float) → i < n → n ≤ length ps → n ≤ length xs
     → drop i (beside (take n ps) (take n xs)) ≡ entryAt i ps xs ∷ drop (suc i) (beside (take n ps) (take n xs))
@@ -132,6 +158,17 @@ module _ (n : ℕ) (ps : List ℕ) (xs : List Float) where
         later : (m j : ℕ) → m ≡ suc i → m - 1 ≡ j
             → from m (ok && not b) ≡ ((ok && not b) && stepsFrom better better-order (entryAt j ps xs) (drop (suc i) (entries (lent n ps xs))))
         later m j u v = rw (v, u)
+
+    many : (m : ℕ) (ok : Bool) (i : ℕ) → Checking ok i → i + m ≤ n → Checking (ok && eachFrom (stands ps xs) i m) (i + m)
+    many zero ok i c l = let z : i + 0 ≡ i = omega arith in rw (and-true ok, z) c
+    many (suc m) ok i c l =
+        let z : i + 1 + m ≡ i + suc m = omega arith in
+        let t = many m (ok && stands ps xs i) (i + 1) (check-next ok i c (omega arith) (entryAt (i - 1) ps xs) (entryAt i ps xs) refl refl (better (entryAt i ps xs) (entryAt (i - 1) ps xs)) refl) (omega arith) in
+        rw (z, add-one i, and-assoc ok (stands ps xs i) (eachFrom (stands ps xs) (suc i) m)) at t
+
+    -- several entries at a time
+    pub check-part : (ok : Bool) (i to : ℕ) (r : Bool) → Checking ok i → i ≤ to → to ≤ n → r ≡ eachFrom (stands ps xs) i (to - i) → Checking (ok && r) to
+    check-part ok i to r c l u e = let z : i + (to - i) ≡ to = omega arith in rw e (rw z at (many (to - i) ok i c (omega arith)))
 
     pub check-end : 0 < n → T (fits binary32 (getD xs 0 nan)) → (ok : Bool) (i : ℕ) → Checking ok i → n ≤ i → ok ≡ sound (entries (lent n ps xs))
     check-end o f ok i c l =

@@ -3,10 +3,11 @@ use kept_list::Scored;
 use refusal::Refusal;
 use refusal::Verdict;
 ghost use mathlib.Core.Path.{_≡_};
-ghost use Prim.Native.Nat.{suc, min, _≤_, _<_};
+ghost use Prim.Native.Nat.{suc, min, _-_, _≤_, _<_};
 ghost use lib.ListN.{length as len};
 ghost use Rattle.kept_list.specs.Lent.{lent, entryAt, entries};
 ghost use Rattle.kept_list.specs.Push.{sound, wellKept, verdictOf, left, pushed};
+ghost use Rattle.kept_push.specs.Standing.{eachFrom, stands, Fallen};
 
 // The entry at a place of the two slices.
 fn entry(at: usize, packed: &[u64], scores: &[f32]) -> Scored
@@ -17,8 +18,50 @@ fn entry(at: usize, packed: &[u64], scores: &[f32]) -> Scored
     Scored::new(packed[at], scores[at])
 }
 
+// Whether each score from a place up to another is below the one above it. This loop and the next leave at no entry, so that the compiler
+// can take several at once.
+fn all_fall(from: usize, to: usize, scores: &[f32]) -> bool
+    requires { ⌜ (0 < from) × (from ≤ to) × (to ≤ len (now scores)) ⌝ }
+    ensures { λ r. ⌜ Fallen from to (now (scores .entry)) r ⌝ }
+{
+    let mut ok = true;
+    let mut i = from;
+    while i < to {
+        let above = i - 1;
+        ok = ok & (scores[i] < scores[above]);
+        i += 1;
+    }
+    ok
+}
+
+// Whether each entry from a place up to another may stand right below the one above it.
+fn all_stand(from: usize, to: usize, packed: &[u64], scores: &[f32]) -> bool
+    requires { ⌜ (0 < from) × (from ≤ to) × (to ≤ len (now packed)) × (to ≤ len (now scores)) ⌝ }
+    ensures { λ r. ⌜ r ≡ eachFrom (stands (now (packed .entry)) (now (scores .entry))) from (to - from) ⌝ }
+{
+    let mut ok = true;
+    let mut i = from;
+    while i < to {
+        let above = entry(i - 1, packed, scores);
+        ok = ok & !entry(i, packed, scores).better(above);
+        i += 1;
+    }
+    ok
+}
+
+// The same of entries whose scores mostly differ: then one look at the scores tells.
+fn mostly_fall(from: usize, to: usize, packed: &[u64], scores: &[f32]) -> bool
+    requires { ⌜ (0 < from) × (from ≤ to) × (to ≤ len (now packed)) × (to ≤ len (now scores)) ⌝ }
+    ensures { λ r. ⌜ r ≡ eachFrom (stands (now (packed .entry)) (now (scores .entry))) from (to - from) ⌝ }
+{
+    if all_fall(from, to, scores) {
+        return true;
+    }
+    all_stand(from, to, packed, scores)
+}
+
 // Whether the first entries of the slices, at least one, stand best first without a NaN. A NaN is above every score, so in
-// a list in order it would stand first. One pass without an early exit, which the compiler can do several entries at a time.
+// a list in order it would stand first. Sixteen entries are looked at together, and those that are left at the end.
 fn is_sound(length: usize, packed: &[u64], scores: &[f32]) -> bool
     requires { ⌜ (0 < length) × (length ≤ len (now packed)) ⌝ }
     requires { ⌜ length ≤ len (now scores) ⌝ }
@@ -26,13 +69,13 @@ fn is_sound(length: usize, packed: &[u64], scores: &[f32]) -> bool
 {
     let first = scores[0];
     let mut ok = first == first;
-    let mut i = 1;
-    while i < length {
-        let above = entry(i - 1, packed, scores);
-        ok = ok & !entry(i, packed, scores).better(above);
-        i += 1;
+    let mut i = 1usize;
+    while 16 <= length - i {
+        let next = i + 16;
+        ok = ok & mostly_fall(i, next, packed, scores);
+        i = next;
     }
-    ok
+    ok & all_stand(i, length, packed, scores)
 }
 
 // Whether refusal 12 finds no fault with a kept list: at most k entries, no more than the buffers hold, best first, no NaN.

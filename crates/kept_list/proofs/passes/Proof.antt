@@ -1,6 +1,6 @@
 -- `kept_list::passes` meets its contract: a greater score is better.
 use mathlib.Core.Path.{sym}
-use Rattle.kept_list.proofs.Placing.{better-of-lt}
+use Rattle.kept_list.specs.Laws.Entry.{better-of-lt}
 use borrow.Author.Needs.{needs}
 use Rattle.kept_list.proofs.passes.Statement.{statement}
 use Rattle.kept_list.proofs.passes.Tie as tie

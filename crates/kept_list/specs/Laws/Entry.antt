@@ -2,16 +2,18 @@
 -- the same.
 use Prim.Native.Nat.{ℕ, _≤_, _<_}
 use native.Mathlib.Omega.{arith}
-use mathlib.Core.Path.{_≡_, ap, _∙_}
+use mathlib.Core.Path.{_≡_, sym, ap, _∙_}
 use mathlib.Core.Logic.{_⊎_, inl, inr}
 use mathlib.Core.Bool.{Bool, true, false, not, _&&_, _||_}
 use lib.Dec.{T, leb, ltb, eqb}
 use borrow.Author.Tests.{ltb-true, ltb-false, eqb-true, eqb-false, lt-ltb, le-ltb, eq-eqb, ne-eqb, leb-true, leb-false, not-true}
-use lib.Ieee.{binary32, fits}
+use lib.Ieee.{binary32, fits, lt, eq}
 use Rattle.sequences.specs.Laws.Lists.{both, decide}
 use Rattle.float32.specs.Order.{atMost}
 use Rattle.float32.specs.Key.{keyOf}
 use Rattle.float32.specs.Laws.KeyLaws.{key-order, key-inj}
+use Rattle.float32.specs.Laws.Tests.{yes}
+use Rattle.float32.specs.Laws.Comparisons.{lt-by-order, lt-numbers}
 use Rattle.kept_list.specs.declared.Scored.{Scored}
 use Rattle.kept_list.specs.Order.{Order}
 use Rattle.kept_list.specs.Keep.{level}
@@ -27,6 +29,13 @@ better-is e f p q =
     go a b true true h k = let x : ltb b a ≡ false = le-ltb b a (leb-true a b h) in let y : eqb a b ≡ true = eq-eqb a b (omega (arith, leb-true a b h, leb-true b a k)) in rw (x, y)
     go a b true false h k = let x : ltb b a ≡ false = le-ltb b a (leb-true a b h) in let y : eqb a b ≡ false = ne-eqb a b (λ e. omega (arith, leb-false b a k)) in rw (x, y)
     go a b false t h k = let x : ltb b a ≡ true = lt-ltb b a (leb-false a b h) in rw x
+
+-- a greater score is better
+pub better-of-lt : (e w : Scored) → T (fits binary32 (e .score)) → T (fits binary32 (w .score)) → lt (w .score) (e .score) ≡ true → better e w ≡ true
+better-of-lt e w f g h =
+    let n = lt-numbers (w .score) (e .score) (yes (lt (w .score) (e .score)) h) in
+    let p = both (not (atMost (e .score) (w .score))) (not (eq (w .score) (e .score))) (sym (lt-by-order (w .score) (e .score) g f (n .0) (n .1)) ∙ h) in
+    better-is e w f g ∙ rw (not-true (atMost (e .score) (w .score)) (p .0))
 
 -- ---- it is a strict weak order
 yes-is : (a p b q : ℕ) → precedes a p b q ≡ true → (b < a) ⊎ ((a ≡ b) × (p < q))
