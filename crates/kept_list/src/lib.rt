@@ -177,13 +177,13 @@ fn insert(at: usize, packed: &mut [u64], scores: &mut [f32], e: Scored)
     scores[place] = e.score;
 }
 
-// Where an entry is laid down before it goes up.
+// The place from which a new entry goes up.
 enum Place {
     At(usize),
     Nowhere,
 }
 
-// Below k an entry is laid down past the others; at k in place of the worst one, if it is better; else nowhere, as
+// Below k a new entry goes up from past the others; at k from the place of the worst one, if it is better; else nowhere, as
 // where more than k are kept or there is no room. At k one comparison decides, however large k is.
 fn find_place(k: u64, length: u64, packed: &[u64], scores: &[f32], e: Scored) -> Place
     ensures { λ r. ⌜ Placed k e (lent length (now (packed .entry)) (now (scores .entry))) r ⌝ }
