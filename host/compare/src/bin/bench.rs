@@ -1,6 +1,6 @@
 //! bench [SECONDS [SIZE ..]]: the original and the proved functions in one run, on the same inputs, as ratios ours / original; results
 //! must be equal before a time counts.
-//! bench instructions SIZE: one build and one search of each kind on both sides, for callgrind.
+//! bench instructions SIZE: one build and one search of each kind on both sides, for callgrind; the original fetches ahead.
 //!
 //! The original is the source as it stands, its ties as document 01 has them, on stand-ins for the crates it uses; a search is timed once
 //! without and once with the fetching ahead that it asks for. What is inside the time is the same on both sides: of a build the
@@ -124,8 +124,8 @@ mod sides {
         seconds_of(|| original::build(&s.theirs, ids, centroids, blocking, original::Summary::Energy { share: ENERGY }))
     }
 
-    /// Builds a list of so many postings on both sides, turn about, until the seconds are over.
-    fn build(r: &mut Random, s: &Store, size: u64, seconds: f64) -> (List, original::Built) {
+    /// Builds a list of so many postings on both sides, turn about, until the seconds are over and so many turns were taken.
+    fn build(r: &mut Random, s: &Store, size: u64, seconds: f64, fewest: usize) -> (List, original::Built) {
         let documents = s.ours.offsets.len() as u64 - 1;
         let ids = listed(r, documents, size);
         let count = compare::model::centroid_count(compare::slips::Slip::None, FRACTION, ids.len());
@@ -140,7 +140,7 @@ mod sides {
             ours.push(t);
             let list = of_original(built.list());
             assert!(compare::any::same_output(&l, &list), "the two builds differ");
-            if begun.elapsed().as_secs_f64() >= seconds && ours.len() >= FEWEST_TURNS {
+            if begun.elapsed().as_secs_f64() >= seconds && ours.len() >= fewest {
                 let (a, b) = (median(&mut ours) * 1e3, median(&mut theirs) * 1e3);
                 println!("{size} postings, {} blocks, {} entries", list.minimums.len(), list.summary_ids.len());
                 println!("  build              : ours {a:>9.3} ms, original {b:>9.3} ms, ratio {:.2}  ({} turns)", a / b, ours.len());
@@ -285,7 +285,7 @@ mod sides {
         let mut r = Random::new(7);
         let s = store(&mut r, DOCUMENTS);
         for &size in sizes {
-            let (list, built) = build(&mut r, &s, size, seconds);
+            let (list, built) = build(&mut r, &s, size, seconds, FEWEST_TURNS);
             for k in [10, 1_000] {
                 for sorted in [false, true] {
                     for cold in [false, true] {
@@ -300,7 +300,7 @@ mod sides {
     pub fn instructions(size: u64) {
         let mut r = Random::new(7);
         let s = store(&mut r, size.max(10_000));
-        let (list, built) = build(&mut r, &s, size, 0.0);
+        let (list, built) = build(&mut r, &s, size, 0.0, 1);
         for k in [10, 1_000] {
             for sorted in [false, true] {
                 let mut side = Searching::new(&s, &list, &built, Kind { k, sorted, cold: false });
