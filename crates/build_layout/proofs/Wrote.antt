@@ -19,7 +19,7 @@ use Rattle.configuration.specs.declared.SummarizationStrategy.{SummarizationStr
 use Rattle.sequences.specs.Lists.{EachOf, between}
 use Rattle.documents.specs.Documents.{Documents}
 use Rattle.documents.specs.Laws.TermKeys.{Held}
-use Rattle.build_block_summary.specs.Blocks.{topsOf, termsIn, tops}
+use Rattle.build_block_summary.specs.Blocks.{topsOf, termsIn}
 use Rattle.build_block_summary.specs.Laws.Kept.{top-held}
 use Rattle.build_count_pass.specs.Counting.{counting}
 use Rattle.build_sizes.specs.Sized.{Measures, measuredStore}

@@ -9,7 +9,6 @@ use Rattle.build_block_summary.specs.Blocks.{blockAt}
 use Rattle.build_kept_keys.specs.Laws.Frames.{none-behind, frame-fits, frame-behind}
 use Rattle.build_fill_pass.proofs.Blocks.{placed-anew, placed-frame}
 use borrow.Author.Needs.{needs}
-use native.Mathlib.Omega.{arith}
 use Rattle.build_fill_pass.proofs.fill_next.Statement.{statement}
 use Rattle.build_fill_pass.proofs.fill_next.Tie as tie
 
