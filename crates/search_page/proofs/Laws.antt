@@ -14,9 +14,10 @@ use Rattle.sequences.specs.Lists.{every}
 use Rattle.sequences.specs.Laws.Lists.{both}
 use Rattle.documents.specs.Checks.{slicesHold, slicesHoldBelow}
 use Rattle.documents.specs.Laws.Documents.{slices-even, slices-below, slices-below-none, slices-below-last}
+use Rattle.search_page.specs.declared.Pair.the-variants.{Scores, Apart}
 use Rattle.search_page.specs.declared.Reading.the-variants.{Breaks, Score}
 use Rattle.search_page.specs.declared.Sum.{Sum}
-use Rattle.search_page.specs.Through.{laying, laidSum, marking, sumOf, belows, sought, looked, stepped, through, lastFits, readThrough}
+use Rattle.search_page.specs.Through.{laying, laidSum, marking, sumOf, belows, sought, looked, stepped, through, lastFits, readThrough, readTwo}
 
 -- ---- the sieve
 pub marking-step : (sieve qs : List ℕ) (i : ℕ) → i < length qs → marking (set sieve (getD qs i 0 % 4096) 1) (drop (i + 1) qs) ≡ marking sieve (drop i qs)
@@ -131,9 +132,9 @@ module _ (table : List Float) (cs : List ℕ) (vs : List Float) where
   abbrev pub laidFrom : ℕ → Float → Float
   laidFrom i x = laidSum table (drop i cs) (drop i vs) x
 
-  pub laid-step : (i : ℕ) (x : Float) → i < length cs → length cs ≡ length vs → laidFrom i x ≡ laidFrom (i + 1) (add binary32 x (mul binary32 (getD vs i nan) (getD table (getD cs i 0 % 32768) nan)))
+  pub laid-next : (i : ℕ) (x y : Float) → i < length cs → length cs ≡ length vs → y ≡ add binary32 x (mul binary32 (getD vs i nan) (getD table (getD cs i 0 % 32768) nan)) → laidFrom i x ≡ laidFrom (i + 1) y
   unfolding laidSum
-  laid-step i x h p = let g : i < length vs = omega arith in rw (add-one i, drop-cons cs i 0 h, drop-cons vs i nan g)
+  laid-next i x y h p e = let g : i < length vs = omega arith in rw (e, add-one i, drop-cons cs i 0 h, drop-cons vs i nan g)
 
   pub laid-end : (i : ℕ) (x : Float) → length cs ≤ i → laidFrom i x ≡ x
   unfolding laidSum
@@ -155,6 +156,22 @@ module _ (table : List Float) (sieve qs : List ℕ) (ws : List Float) (cs : List
   pub breaks : slicesHoldBelow 32768 cs vs ≡ false → slicesHold cs vs ≡ false → Breaks ≡ readThrough table sieve qs ws cs vs
   unfolding readThrough
   breaks b h = rw (b, h)
+
+-- ---- two readings
+module _ (table : List Float) (cs : List ℕ) (vs : List Float) (ds : List ℕ) (ws : List Float) (a b : Bool) (e : a ≡ slicesHoldBelow 32768 cs vs) (f : b ≡ slicesHoldBelow 32768 ds ws) where
+  pub first-even : (a && b) ≡ true → length cs ≡ length vs
+  first-even h = below-even cs vs (sym e ∙ both a b h .0)
+
+  pub second-even : (a && b) ≡ true → length ds ≡ length ws
+  second-even h = below-even ds ws (sym f ∙ both a b h .1)
+
+  pub reads-two : (a && b) ≡ true → (x y : Float) → x ≡ laidSum table cs vs (ofBits binary32 0) → y ≡ laidSum table ds ws (ofBits binary32 0) → Scores x y ≡ readTwo table cs vs ds ws
+  unfolding readTwo
+  reads-two h x y g i = rw (← e, ← f, h, g, i)
+
+  pub reads-apart : (a && b) ≡ false → Apart ≡ readTwo table cs vs ds ws
+  unfolding readTwo
+  reads-apart h = rw (← e, ← f, h)
 
 -- ---- where the terms hold, the last component says which way is taken
 pub fits-none : (cs : List ℕ) → length cs ≡ 0 → true ≡ lastFits cs

@@ -4,4 +4,5 @@ pub mod Score
 pub mod Laid
 pub mod Walk
 pub mod Reads
+pub mod Pairs
 pub mod Cases

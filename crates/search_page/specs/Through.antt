@@ -9,6 +9,8 @@ use lib.Ieee.{Float, nan, binary32, ofBits, add, mul}
 use Rattle.documents.specs.Checks.{slicesHold, slicesHoldBelow}
 use Rattle.search_page.specs.declared.Reading.{Reading}
 use Rattle.search_page.specs.declared.Reading.the-variants.{Breaks, Score}
+use Rattle.search_page.specs.declared.Pair.{Pair}
+use Rattle.search_page.specs.declared.Pair.the-variants.{Scores, Apart}
 use Rattle.search_page.specs.declared.Sum.{Sum}
 
 -- ---- the table: the weight of each component below 32,768 at its own place
@@ -71,3 +73,8 @@ unfoldable pub readThrough : List Float → List ℕ → List ℕ → List Float
 readThrough table sieve qs ws cs vs =
     cond (slicesHoldBelow 32768 cs vs) (Score (laidSum table cs vs (ofBits binary32 0)))
     (cond (slicesHold cs vs) (Score ((through sieve qs ws cs vs (sumOf (ofBits binary32 0) 0)) .total)) Breaks)
+
+-- ---- two pages at a time: both by the table, or neither
+unfoldable pub readTwo : List Float → List ℕ → List Float → List ℕ → List Float → Pair
+readTwo table cs vs ds ws =
+    cond (slicesHoldBelow 32768 cs vs && slicesHoldBelow 32768 ds ws) (Scores (laidSum table cs vs (ofBits binary32 0)) (laidSum table ds ws (ofBits binary32 0))) Apart

@@ -1,16 +1,28 @@
-// One page read against a query: its terms are checked and its score is taken, in two short passes over them.
+// One page read against a query: its terms are checked and its score is taken, in two short passes over them. Or two pages at a time.
 ghost use mathlib.Core.Path.{_≡_};
 ghost use mathlib.Core.Bool.{cond};
 ghost use Prim.Native.Nat.{_≤_, _<_, _+_, _%_};
 ghost use lib.ListN.{length, getD, drop, set};
 ghost use lib.Dec.{ltb};
-ghost use lib.Ieee.{ofBits, binary32};
-ghost use Rattle.search_page.specs.Through.{laying, laidSum, sieveOf, sought, looked, through, sumOf, lastFits, readThrough};
+ghost use lib.Ieee.{nan, ofBits, binary32, add, mul};
+ghost use Rattle.search_page.specs.Through.{laying, laidSum, sieveOf, sought, looked, through, sumOf, lastFits, readThrough, readTwo};
 
 // What reading a page says: its terms break their rules (14), or its score.
 pub enum Reading {
     Breaks,
     Score(f32),
+}
+
+// What reading two pages at a time says: the score of each where the table has a place for every component of both, else nothing.
+pub enum Pair {
+    Scores { one: f32, two: f32 },
+    Apart,
+}
+
+// The sums of two pages.
+struct Sums {
+    one: f32,
+    two: f32,
 }
 
 // A sum on its way, and the place in the query from which the next component is looked up.
@@ -253,21 +265,69 @@ fn walk(
     s.total
 }
 
-// The sum over a page's terms by the table, with no branch on what they are: a term that the query lacks adds a zero, which changes
-// nothing (specs/Laws/Zeros).
+// The sum with one term more: its value times what the table has for its component.
+fn with_term(table: &[f32; 32768], c: u32, v: f32, sum: f32) -> f32
+    ensures { λ r. ⌜ r ≡ add binary32 sum (mul binary32 v (getD (now (table .entry)) (c % 32768) nan)) ⌝ }
+{
+    let place = (c % 32768) as usize;
+    sum + v * table[place]
+}
+
+// The sum goes on over a page's terms from a place on, by the table, with no branch on what they are: a term that the query lacks adds a
+// zero, which changes nothing (specs/Laws/Zeros).
+fn laid_rest(
+    table: &[f32; 32768],
+    components: &[u32],
+    values: &[f32],
+    from: usize,
+    start: f32,
+) -> f32
+    requires { ⌜ length (now components) ≡ length (now values) ⌝ }
+    ensures { λ r. ⌜ r ≡ laidSum (now (table .entry)) (drop from (now (components .entry))) (drop from (now (values .entry))) start ⌝ }
+{
+    let mut sum = start;
+    let mut i = from;
+    while i < components.len() {
+        sum = with_term(table, components[i], values[i], sum);
+        i += 1;
+    }
+    sum
+}
+
+// The sum over all of a page's terms by the table.
 fn laid_sum(table: &[f32; 32768], components: &[u32], values: &[f32]) -> f32
     requires { ⌜ length (now components) ≡ length (now values) ⌝ }
     ensures { λ r. ⌜ r ≡ laidSum (now (table .entry)) (now (components .entry)) (now (values .entry)) (ofBits binary32 0) ⌝ }
 {
-    let mut sum = 0.0;
+    laid_rest(table, components, values, 0, 0.0)
+}
+
+// The sums over two pages' terms by the table, side by side as far as the shorter page goes: neither waits for the other, so that both take
+// little more time than one.
+fn laid_two(
+    table: &[f32; 32768],
+    components: &[u32],
+    values: &[f32],
+    others: &[u32],
+    other_values: &[f32],
+) -> Sums
+    requires { ⌜ length (now components) ≡ length (now values) ⌝ }
+    requires { ⌜ length (now others) ≡ length (now «other_values») ⌝ }
+    ensures one { λ r. ⌜ r .one ≡ laidSum (now (table .entry)) (now (components .entry)) (now (values .entry)) (ofBits binary32 0) ⌝ }
+    ensures two { λ r. ⌜ r .two ≡ laidSum (now (table .entry)) (now (others .entry)) (now («other_values» .entry)) (ofBits binary32 0) ⌝ }
+{
+    let n = cells::shorter(components.len(), others.len());
+    let mut a = 0.0;
+    let mut b = 0.0;
     let mut i = 0usize;
-    while i < components.len() {
-        let c = components[i];
-        let place = (c % 32768) as usize;
-        sum = sum + values[i] * table[place];
+    while i < n {
+        a = with_term(table, components[i], values[i], a);
+        b = with_term(table, others[i], other_values[i], b);
         i += 1;
     }
-    sum
+    let one = laid_rest(table, components, values, i, a);
+    let two = laid_rest(table, others, other_values, i, b);
+    Sums { one: one, two: two }
 }
 
 // Whether rising components all have a place in the table: the last one decides.
@@ -359,4 +419,28 @@ pub fn read(
         query_components,
         query_values,
     )
+}
+
+// Two pages read at a time by the table: both scores where each page's terms hold and have their places in the table, else neither. Where
+// there are scores they are those of `read` (specs/Laws/Pairs). It takes time in proportion to the terms of both pages, little more than
+// the longer one alone.
+pub fn read_two(
+    table: &[f32; 32768],
+    components: &[u32],
+    values: &[f32],
+    others: &[u32],
+    other_values: &[f32],
+) -> Pair
+    ensures { λ r. ⌜ r ≡ readTwo (now (table .entry)) (now (components .entry)) (now (values .entry)) (now (others .entry)) (now («other_values» .entry)) ⌝ }
+{
+    let one = document_checks::slices_hold_below(32768, components, values);
+    let two = document_checks::slices_hold_below(32768, others, other_values);
+    if one & two {
+        let sums = laid_two(table, components, values, others, other_values);
+        return Pair::Scores {
+            one: sums.one,
+            two: sums.two,
+        };
+    }
+    Pair::Apart
 }

@@ -1,2 +1,3 @@
+pub mod Together
 pub mod Probes
 pub mod Steps

@@ -1,4 +1,5 @@
 pub mod Ranges
 pub mod Outcomes
 pub mod Postings
+pub mod Pairs
 pub mod Laws

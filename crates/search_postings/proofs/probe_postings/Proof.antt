@@ -6,8 +6,9 @@ use Rattle.sequences.specs.Lists.{from}
 use Rattle.kept_list.specs.Lent.{lent}
 use Rattle.search_postings.specs.Ranges.{throughTable}
 use Rattle.search_postings.specs.Postings.{lends, heldProbe}
-use Rattle.search_postings.proofs.Probes.{probe-on, probe-stop, probe-end}
+use Rattle.search_postings.proofs.Probes.{rest-on, rest-stop, leads-on, probe-end}
 use borrow.Author.Needs.{needs}
+use native.Mathlib.Omega.{arith}
 use Rattle.search_postings.proofs.probe_postings.Statement.{statement}
 use Rattle.search_postings.proofs.probe_postings.Tie as tie
 
@@ -21,10 +22,10 @@ abbrev μ-loop : tie.MeasureT-loop
 μ-loop table sieve query-components query-values components values k postings first end length₀ packed₀ scores₀ visits₀ stop c₀ narrow₀ known₀ i₀ length packed scores visits c narrow known i = stop - i
 
 -- the places that the needs speak of, found by their types
-abbrev evaluate-of : tie.After-known-told Inv-loop μ-loop → tie.After-evaluate Inv-loop μ-loop
-evaluate-of p = search needs
+abbrev step-of : tie.After-known-told Inv-loop μ-loop → tie.After-step-on Inv-loop μ-loop
+step-of p = search needs
 
-abbrev in-loop-of : tie.After-evaluate Inv-loop μ-loop → tie.In-loop Inv-loop μ-loop
+abbrev in-loop-of : tie.After-step-on Inv-loop μ-loop → tie.In-loop Inv-loop μ-loop
 in-loop-of p = search needs
 
 abbrev loop-of : tie.In-loop Inv-loop μ-loop → tie.At-loop Inv-loop μ-loop
@@ -66,20 +67,37 @@ part-look-ahead-end c = search needs
 look-ahead-requires : tie.Need-look-ahead-requires Inv-loop μ-loop
 look-ahead-requires c κs = tt
 
-mul-t35 : tie.Need-mul-t35 Inv-loop μ-loop
-mul-t35 c = search needs
+step-on-requires : tie.Need-step-on-requires Inv-loop μ-loop
+step-on-requires c κs = search needs
 
-shared-slice-read-t37 : tie.Need-shared-slice-read-t37 Inv-loop μ-loop
-shared-slice-read-t37 c = search needs
+enum-known-s : tie.Need-enum-known-s Inv-loop μ-loop
+enum-known-s c = search needs
 
-evaluate-requires : tie.Need-evaluate-requires Inv-loop μ-loop
-evaluate-requires c κs = tt
+loop-less : tie.Need-loop-less Inv-loop μ-loop
+loop-less c =
+    let at-s : tie.After-s Inv-loop μ-loop = search needs in
+    let at-step = step-of c in
+    let in-loop = in-loop-of at-step in
+    let at-loop = loop-of in-loop in
+    let stop = shorter-of at-loop .shorter .result in
+    let z = leads-on stop (at-loop .loop .i) (at-step .step-on .result) _ _ (at-s .s .given .1) (at-step .step-on .ensures .1) in omega (arith, z, in-loop .loop-test .taken)
 
-enum-known-t : tie.Need-enum-known-t Inv-loop μ-loop
-enum-known-t c = search needs
+loop-again : tie.Need-loop-again Inv-loop μ-loop
+loop-again c = (
+  search needs,
+  search needs,
+  search needs,
+  let at-s : tie.After-s Inv-loop μ-loop = search needs in
+      let at-step = step-of c in
+      let at-loop = loop-of (in-loop-of at-step) in
+      let at-shorter = shorter-of at-loop in
+      let a = start-of at-shorter .args in
+      rest-on (a .k) (throughTable (a .table .now) (a .sieve .now) (a .query-components .now) (a .query-values .now) (a .components .now) (a .values .now)) (a .postings .now)
+      (at-shorter .shorter .result) (at-step .step-on .result) _ _ (at-step .step-on .ensures .0) _ _ (at-s .s .given .1) ∙ at-loop .loop .inv .3,
+)
 
-enum-known-t-2 : tie.Need-enum-known-t-2 Inv-loop μ-loop
-enum-known-t-2 c = search needs
+enum-known-s-2 : tie.Need-enum-known-s-2 Inv-loop μ-loop
+enum-known-s-2 c = search needs
 
 same-length : tie.Need-same-length Inv-loop μ-loop
 same-length c = search needs
@@ -92,39 +110,16 @@ same-length-3 c = search needs
 
 returns : tie.Need-returns Inv-loop μ-loop
 returns c =
-    let at-evaluate : tie.After-evaluate Inv-loop μ-loop = search needs in
-    let in-loop = in-loop-of at-evaluate in
-    let at-loop = loop-of in-loop in
+    let at-s2 : tie.After-s2 Inv-loop μ-loop = search needs in
+    let at-step : tie.After-step-on Inv-loop μ-loop = search needs in
+    let at-loop = loop-of (in-loop-of at-step) in
     let at-shorter = shorter-of at-loop in
-    let start = start-of at-shorter in
-    let l = at-loop .loop in let a = start .args in
-    probe-stop (a .k) (throughTable (a .table .now) (a .sieve .now) (a .query-components .now) (a .query-values .now) (a .components .now) (a .values .now)) (a .postings .now)
-    (l .i) (at-shorter .shorter .result) (l .c) (lends (lent (l .length) (l .packed) (l .scores))
-    (l .visits)) (at-evaluate .evaluate .result) _ _ _ (in-loop .loop-test .taken) (c .before .t2 .given .1) (at-evaluate .evaluate .ensures) ∙ l .inv .3
+    let a = start-of at-shorter .args in
+    rest-stop (a .k) (throughTable (a .table .now) (a .sieve .now) (a .query-components .now) (a .query-values .now) (a .components .now) (a .values .now)) (a .postings .now)
+    (at-shorter .shorter .result) (at-step .step-on .result) _ _ (at-step .step-on .ensures .0) _ _ (at-s2 .s2 .given .1) ∙ at-loop .loop .inv .3
     ∙ ap (λ e. heldProbe (a .k) (throughTable (a .table .now) (a .sieve .now) (a .query-components .now) (a .query-values .now) (a .components .now) (a .values .now))
     (a .postings .now) (from (a .first) (e - a .first)) (a .counts) (lends (lent (a .length .now) (a .packed .now) (a .scores .now)) (a .visits .now)))
     (at-shorter .shorter .ensures)
-
-add-i : tie.Need-add-i Inv-loop μ-loop
-add-i c = search needs
-
-loop-less : tie.Need-loop-less Inv-loop μ-loop
-loop-less c = search needs
-
-loop-again : tie.Need-loop-again Inv-loop μ-loop
-loop-again c =
-    let l = (loop-of (in-loop-of (evaluate-of c))) .loop in
-    let a = (start-of (shorter-of (loop-of (in-loop-of (evaluate-of c))))) .args in (
-      search needs,
-      search needs,
-      search needs,
-      let at-evaluate = evaluate-of c in
-          let in-loop = in-loop-of at-evaluate in
-          let at-shorter = shorter-of (loop-of in-loop) in
-          probe-on (a .k) (throughTable (a .table .now) (a .sieve .now) (a .query-components .now) (a .query-values .now) (a .components .now) (a .values .now)) (a .postings .now)
-          (l .i) (at-shorter .shorter .result) (l .c) (lends (lent (l .length) (l .packed) (l .scores))
-          (l .visits)) (at-evaluate .evaluate .result) _ _ (in-loop .loop-test .taken) (c .before .t .given .1) (at-evaluate .evaluate .ensures) ∙ l .inv .3,
-    )
 
 same-length-4 : tie.Need-same-length-4 Inv-loop μ-loop
 same-length-4 c = search needs
@@ -163,18 +158,15 @@ probe-postings-spec =
     part-look-ahead-start
     part-look-ahead-end
     look-ahead-requires
-    mul-t35
-    shared-slice-read-t37
-    evaluate-requires
-    enum-known-t
-    enum-known-t-2
+    step-on-requires
+    enum-known-s
+    loop-less
+    loop-again
+    enum-known-s-2
     same-length
     same-length-2
     same-length-3
     returns
-    add-i
-    loop-less
-    loop-again
     same-length-4
     same-length-5
     same-length-6
