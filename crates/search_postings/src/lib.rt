@@ -223,8 +223,8 @@ fn step_on(
 }
 
 // The postings from one position to below another, as far as there are any, one after another. Some at a time are looked at ahead, so
-// that their terms are on their way when they are read; what that says changes only the way of reading. It takes time in proportion to the terms
-// of the postings evaluated, and a few steps for each one passed over.
+// that their terms are on their way when they are read; what that says changes only the way of reading. It takes time in proportion to
+// the terms of the postings evaluated, and a few steps for each one passed over.
 pub fn probe_postings(
     table: &[f32; 32768],
     sieve: &[u8; 4096],
