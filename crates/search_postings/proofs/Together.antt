@@ -1,19 +1,16 @@
 -- Two postings at a time are two postings one after the other.
-use Prim.Native.Nat.{ℕ, suc, _+_, _-_, _≤_, _<_, min}
+use Prim.Native.Nat.{ℕ, _+_, _≤_, min}
 use native.Mathlib.Omega.{arith}
-use native.Mathlib.Numerals.{add-one}
 use mathlib.Core.Path.{_≡_, refl, sym, ap, _∙_}
-use mathlib.Core.Bool.{Bool, true, false, not, _&&_, _||_, cond, true≢false}
+use mathlib.Core.Bool.{Bool, true, false, not, _||_, cond, true≢false}
 use mathlib.Core.List.{List}
-use lib.ListN.{length, getD}
-use lib.Dec.{eqb, ltb, leb}
+use lib.ListN.{length}
+use lib.Dec.{ltb}
 use lib.Ieee.{Float}
-use borrow.Author.Tests.{le-leb, ltb-false, leb-true}
-use Rattle.sequences.specs.Lists.{from}
+use borrow.Author.Tests.{le-leb, ltb-false}
 use Rattle.sequences.specs.Laws.Lists.{both, neither}
 use Rattle.packing.specs.declared.UnpackedRange.{UnpackedRange}
 use Rattle.packing.specs.Packing.{startOf, lengthOf, unpacked}
-use Rattle.refusal.specs.declared.Refusal.{Refusal}
 use Rattle.search_page.specs.declared.Pair.{Pair}
 use Rattle.search_page.specs.declared.Pair.the-variants.{Scores, Apart}
 use Rattle.search_page.specs.Through.{readTwo}
@@ -27,7 +24,7 @@ use Rattle.search_postings.specs.declared.RangeReading.{RangeReading}
 use Rattle.search_postings.specs.declared.RangeReading.the-variants.{Score}
 use Rattle.search_postings.specs.Outcomes.{passed, ofReading, visited}
 use Rattle.search_postings.specs.Ranges.{ofPage, throughTable}
-use Rattle.search_postings.specs.Postings.{Lends, Turned, turned, next, thenOn, heldOutcome, heldEvaluate, heldProbe}
+use Rattle.search_postings.specs.Postings.{Lends, Turned, next, thenOn, heldOutcome, heldEvaluate}
 use Rattle.search_postings.specs.Pairs.{wasVisited, goesPast, termsAt, bothRanges, readBoth, wentOn, heldKnown, Pairing, together, apart, bothTurned, heldTwo}
 
 -- ---- the scores, by the tests that were passed
@@ -57,11 +54,12 @@ module _ (table : List Float) (cs : List ℕ) (vs : List Float) (visits : List �
         pub both-read : (ltb n (u .end) || ltb n (v .end)) ≡ false → (r : Pair) → r ≡ readTwo table (termsAt cs u) (termsAt vs u) (termsAt cs v) (termsAt vs v) → r ≡ readBoth w table cs vs visits p q
         both-read i r j = both-ranges r (rw (← a, ← b, g, ← m, i) j)
 
-        pub first-within : (ltb n (u .end) || ltb n (v .end)) ≡ false → (u .end ≤ length cs) × (u .end ≤ length vs)
-        first-within i = let z = ltb-false n (u .end) (neither (ltb n (u .end)) (ltb n (v .end)) i .0) in (omega (arith, z, m), omega (arith, z, m))
-
-        pub second-within : (ltb n (u .end) || ltb n (v .end)) ≡ false → (v .end ≤ length cs) × (v .end ≤ length vs)
-        second-within i = let z = ltb-false n (v .end) (neither (ltb n (u .end)) (ltb n (v .end)) i .1) in (omega (arith, z, m), omega (arith, z, m))
+-- ranges that don't go past the terms
+pub both-within : (cs : List ℕ) (vs : List Float) (n a b : ℕ) → n ≡ min (length cs) (length vs) → (ltb n a || ltb n b) ≡ false → (a ≤ length cs) × (a ≤ length vs) × (b ≤ length cs) × (b ≤ length vs)
+both-within cs vs n a b m i =
+    let t = neither (ltb n a) (ltb n b) i in
+    let y = ltb-false n a (t .0) in
+    let z = ltb-false n b (t .1) in (omega (arith, y, m), omega (arith, y, m), omega (arith, z, m), omega (arith, z, m))
 
 -- ---- where there are scores, they are those of reading each posting
 if-scores : (b : Bool) (r : Pair) (x y : Float) → cond b r Apart ≡ Scores x y → (b ≡ true) × (r ≡ Scores x y)

@@ -1,6 +1,6 @@
 -- `search_page::laid_rest`: adding what is left is adding all from the place on.
-use mathlib.Core.Path.{_≡_, refl, sym, ap, _∙_}
-use Prim.Native.Nat.{_-_, _+_}
+use mathlib.Core.Path.{_≡_, refl, sym, _∙_}
+use Prim.Native.Nat.{_-_}
 use lib.ListN.{length}
 use Rattle.search_page.proofs.Laws.{laidFrom, laid-next, laid-end}
 use borrow.Author.Needs.{needs}

@@ -1,6 +1,6 @@
 -- `search_page::laid_two`: for each page, adding what is left is adding all.
 use mathlib.Core.Path.{_≡_, refl, sym, _∙_}
-use Prim.Native.Nat.{_-_, _≤_}
+use Prim.Native.Nat.{_-_}
 use native.Mathlib.Omega.{arith}
 use Rattle.search_page.proofs.Laws.{laidFrom, laid-next}
 use borrow.Author.Needs.{needs}

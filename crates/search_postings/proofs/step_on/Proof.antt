@@ -1,5 +1,4 @@
 -- `search_postings::step_on`: what is left after the step is what was left before it.
-use mathlib.Core.Path.{_≡_}
 use native.Mathlib.Omega.{arith}
 use Rattle.kept_list.specs.Lent.{lent}
 use Rattle.search_postings.specs.Postings.{lends}

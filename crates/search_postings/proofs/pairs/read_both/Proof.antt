@@ -1,10 +1,9 @@
 -- `search_postings::pairs::read_both`: apart by one of the tests, else what reading both pages says.
-use mathlib.Core.Path.{_≡_}
 use native.Mathlib.Omega.{arith}
 use Prim.Native.Nat.{_≤_}
 use lib.ListN.{length}
 use Rattle.search_postings.proofs.Steps.{end-by}
-use Rattle.search_postings.proofs.Together.{both-unwanted, both-visited, both-past, both-read, first-within, second-within}
+use Rattle.search_postings.proofs.Together.{both-unwanted, both-visited, both-past, both-read, both-within}
 use borrow.Author.Needs.{needs}
 use Rattle.search_postings.proofs.pairs.read_both.Statement.{statement}
 use Rattle.search_postings.proofs.pairs.read_both.Tie as tie
@@ -45,22 +44,12 @@ fits : (at : tie.Else3) →
     (u .start .0 ≤ u .end) × (u .end ≤ length (a .components .now)) × (u .end ≤ length (a .values .now)) × (v .start .0 ≤ v .end) × (v .end ≤ length (a .components .now)) × (v .end ≤ length (a .values .now))
 fits at =
     let at-count = count-of at in
-    let at-else2 = else2-of at-count in
-    let at-two = two-of at-else2 in
-    let at-one = one-of at-two in
-    let at-unpack2 = unpack2-of at-one in
+    let at-unpack2 = unpack2-of (one-of (two-of (else2-of at-count))) in
     let at-unpack = unpack-of at-unpack2 in
-    let at-else1 = else1-of at-unpack in
-    let a = start-of at-else1 .args in
-    let u = at-unpack .unpack in
-    let v = at-unpack2 .unpack2 in
-    let first = first-within (a .table .now) (a .components .now) (a .values .now) (a .visits .now) (a .one .0) (a .two .0) (u .result) (v .result) (u .ensures) (v .ensures) (a .wanted) (at-else1 .if1 .left)
-    (at-one .is-visited .result) (at-two .is-visited2 .result) (at-one .is-visited .ensures) (at-two .is-visited2 .ensures) (at-count .term-count .result) (at-count .term-count .ensures)
-    (at-else2 .if2 .left) (at .if3 .left) in
-    let second = second-within (a .table .now) (a .components .now) (a .values .now) (a .visits .now) (a .one .0) (a .two .0) (u .result) (v .result) (u .ensures) (v .ensures) (a .wanted) (at-else1 .if1 .left)
-    (at-one .is-visited .result) (at-two .is-visited2 .result) (at-one .is-visited .ensures) (at-two .is-visited2 .ensures) (at-count .term-count .result) (at-count .term-count .ensures)
-    (at-else2 .if2 .left) (at .if3 .left) in
-    (end-by (a .one .0) (u .result) (u .ensures), first .0, first .1, end-by (a .two .0) (v .result) (v .ensures), second .0, second .1)
+    let a = start-of (else1-of at-unpack) .args in
+    let u = at-unpack .unpack in let v = at-unpack2 .unpack2 in
+    let w = both-within (a .components .now) (a .values .now) (at-count .term-count .result) (u .result .end) (v .result .end) (at-count .term-count .ensures) (at .if3 .left) in
+    (end-by (a .one .0) (u .result) (u .ensures), w .0, w .1, end-by (a .two .0) (v .result) (v .ensures), w .2, w .3)
 
 returns : tie.Need-returns
 returns c =
@@ -88,8 +77,7 @@ returns-2 c =
     let at-unpack = unpack-of at-unpack2 in
     let at-else1 = else1-of at-unpack in
     let a = start-of at-else1 .args in
-    let u = at-unpack .unpack in
-    let v = at-unpack2 .unpack2 in
+    let u = at-unpack .unpack in let v = at-unpack2 .unpack2 in
     both-visited (a .table .now) (a .components .now) (a .values .now) (a .visits .now) (a .one .0) (a .two .0) (u .result) (v .result) (u .ensures) (v .ensures) (a .wanted) (at-else1 .if1 .left)
     (at-one .is-visited .result) (at-two .is-visited2 .result) (at-one .is-visited .ensures) (at-two .is-visited2 .ensures) (c .if2 .taken)
 
@@ -106,8 +94,7 @@ returns-3 c =
     let at-unpack = unpack-of at-unpack2 in
     let at-else1 = else1-of at-unpack in
     let a = start-of at-else1 .args in
-    let u = at-unpack .unpack in
-    let v = at-unpack2 .unpack2 in
+    let u = at-unpack .unpack in let v = at-unpack2 .unpack2 in
     both-past (a .table .now) (a .components .now) (a .values .now) (a .visits .now) (a .one .0) (a .two .0) (u .result) (v .result) (u .ensures) (v .ensures) (a .wanted) (at-else1 .if1 .left)
     (at-one .is-visited .result) (at-two .is-visited2 .result) (at-one .is-visited .ensures) (at-two .is-visited2 .ensures) (at-count .term-count .result) (at-count .term-count .ensures)
     (at-else2 .if2 .left) (c .if3 .taken)
@@ -174,8 +161,7 @@ returns-4 c =
     let at-unpack = unpack-of at-unpack2 in
     let at-else1 = else1-of at-unpack in
     let a = start-of at-else1 .args in
-    let u = at-unpack .unpack in
-    let v = at-unpack2 .unpack2 in
+    let u = at-unpack .unpack in let v = at-unpack2 .unpack2 in
     both-read (a .table .now) (a .components .now) (a .values .now) (a .visits .now) (a .one .0) (a .two .0) (u .result) (v .result) (u .ensures) (v .ensures) (a .wanted) (at-else1 .if1 .left)
     (at-one .is-visited .result) (at-two .is-visited2 .result) (at-one .is-visited .ensures) (at-two .is-visited2 .ensures) (at-count .term-count .result) (at-count .term-count .ensures)
     (at-else2 .if2 .left) (at .if3 .left) (c .read-two .result) (c .read-two .ensures)
