@@ -1,4 +1,5 @@
 // A short list built with scratch of its own: what a small program calls that has no buffers to lend.
+#![tactic(auto)]
 ghost use Rattle.std.specs.Prelude.{◌≡◌};
 ghost use Rattle.documents.specs.Documents.{documents};
 ghost use Rattle.build_meaning.specs.Built.{input};

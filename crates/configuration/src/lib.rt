@@ -1,4 +1,5 @@
 // How one posting list is to be built: the caller's choices, by value. Any f32 may stand in them, a NaN too.
+#![tactic(auto)]
 
 // How a list's postings are cut into blocks.
 #[derive(Drop)]

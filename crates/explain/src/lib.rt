@@ -1,6 +1,7 @@
 // Why a posting of a list is kept or not, told from what a search left for inspection: the blocks' scores and the order of their turns.
 // The turns before a moment are taken again, from the kept list and the visit bytes that the search began with; so what is held at that
 // moment is the search's own.
+#![tactic(auto)]
 ghost use Rattle.std.specs.Prelude.{◌≡◌, take};
 ghost use Rattle.sequences.specs.Lists.{among};
 ghost use Rattle.kept_list.specs.Lent.{lent};

@@ -1,6 +1,7 @@
 // The C functions of Merinocloud: the proved functions over numbers and slices, for a host in Rust or C.
 // A slice crosses as a pointer and a length, a lent number as a pointer. Each function answers 0 where the call is accepted,
 // and else the number of its refusal.
+#![tactic(auto)]
 mod build;
 
 ghost use Rattle.std.specs.Prelude.{◌≡◌};

@@ -1,4 +1,5 @@
 // Numbers that must not be taken for one another: each kind has a type of its own around one number.
+#![tactic(auto)]
 
 // The number of a document among all documents, from 0 on.
 #[derive(Drop)]

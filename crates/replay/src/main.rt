@@ -1,6 +1,7 @@
 // Replays a sample of the original's answers against the proved functions. The sample is the file `cases`; docs/DIFFERENCES.md says how
 // it was made. A case is a row of words; the first one says of what kind it is, and 8 more than that that its answer is damaged: such a
 // one must differ, so that a judge which always agrees is seen.
+#![tactic(auto)]
 mod builds;
 mod record;
 

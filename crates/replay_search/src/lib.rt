@@ -1,6 +1,7 @@
 // Searching, as recorded. The words of a case: 1: by score; 2: k; 3: the factor; 4: how many are kept; 5: how many afterwards;
 // 6: evaluated; 7: skipped; from 8 on where the slices start: the twelve that are read, the kept packed numbers, scores and visits before,
 // and afterwards these three, the dots and the order.
+#![tactic(auto)]
 ghost use Rattle.std.specs.Prelude.{◌≡◌, get_or, replicate};
 ghost use Rattle.kept_list.specs.Lent.{lent};
 ghost use Rattle.sparse_scores.specs.Layout.{arrays};

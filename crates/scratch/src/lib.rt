@@ -1,4 +1,5 @@
 // The eleven buffers that a build works in, by role: how long each is, and in specs/ what stands in them. A clustering is lent the same.
+#![tactic(auto)]
 
 // A length for each scratch buffer.
 #[derive(Drop)]

@@ -1,5 +1,6 @@
 // One posting after another: a range that was not visited is read against the query by its table and sieve, and a scored one is kept if
 // it is among the k best. Nothing is assumed of the slices, nor that the table and the sieve are those of the query.
+#![tactic(auto)]
 mod ahead;
 mod pairs;
 

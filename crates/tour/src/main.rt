@@ -1,5 +1,6 @@
 // The tour: a few plan pages, posting lists built of them, and questions. It shows which pages a search finds, and for every other page
 // of the list the rule by which it was not kept. It reads nothing.
+#![tactic(auto)]
 mod pages;
 mod story;
 mod text;
