@@ -2,7 +2,7 @@
 #![tactic(auto)]
 
 // How a list's postings are cut into blocks.
-#[derive(Drop)]
+#[derive(Clone, Copy)]
 pub enum BlockingStrategy {
     // blocks of this many postings, as the list has them
     FixedSize {
@@ -19,7 +19,7 @@ pub enum BlockingStrategy {
 }
 
 // How the nearest centroid is found.
-#[derive(Drop)]
+#[derive(Clone, Copy)]
 pub enum ClusteringAlgorithm {
     // by the dot product with each centroid
     RandomKmeans,
@@ -28,7 +28,7 @@ pub enum ClusteringAlgorithm {
 }
 
 // Which of a block's greatest terms its summary keeps.
-#[derive(Drop)]
+#[derive(Clone, Copy)]
 pub enum SummarizationStrategy {
     // this many
     FixedSize { n_components: u64 },
