@@ -1,6 +1,7 @@
 // A place of a slice, read or written whether it is there or not, and the smaller and the greater of two numbers: one function for each
 // kind of number.
 #![tactic(auto)]
+
 ghost use Rattle.std.specs.Prelude.{◌≡◌, min, max, get_or, set};
 
 // The u64 at a place; another number past the end.
