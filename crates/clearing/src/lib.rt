@@ -1,5 +1,6 @@
 // Lent buffers set to zero, one function for each kind of number: what a refused call leaves, and what every call leaves in its scratch.
 #![tactic(auto)]
+
 ghost use Rattle.std.specs.Prelude.{◌≡◌};
 ghost use Rattle.clearing.specs.Zeros.{zeros, float_zeros};
 
