@@ -1,6 +1,7 @@
 // Single floats as document 01 and IEEE 754-2019 have them: the total order and a key for it, the bound on values, a value's byte, a part
 // of a length.
 #![tactic(auto)]
+
 ghost use Rattle.std.specs.Prelude.{◌≡◌, pos};
 ghost use Rattle.std.specs.Float.{binary32};
 ghost use Rattle.std.specs.Float.Ieee.{of_int, to_unsigned};
