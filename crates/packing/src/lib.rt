@@ -1,5 +1,6 @@
 // A document's range of terms in one number, as a posting list holds it.
 #![tactic(auto)]
+
 ghost use Rattle.std.specs.Prelude.{◌≡◌, ◌-◌, leb, ltb};
 ghost use Rattle.packing.specs.Packing.{start_limit, length_limit, packed, unpacked};
 
