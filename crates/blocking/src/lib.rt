@@ -1,5 +1,6 @@
 // How a posting list is cut into blocks: by a fixed size, or by a number of centroids.
 #![tactic(auto)]
+
 use refusal::Refusal;
 
 pub mod limits;
