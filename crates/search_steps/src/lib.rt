@@ -1,5 +1,6 @@
 // Small steps of a block's turn: visit bytes, the skip test and a count. Nothing is assumed of the slices.
 #![tactic(auto)]
+
 ghost use Rattle.std.specs.Prelude.{◌≡◌, not, ◌+◌, min, get_or, set, eqb};
 ghost use Rattle.search_steps.specs.Skips.{skips_at};
 
