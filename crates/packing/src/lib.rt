@@ -8,7 +8,7 @@ use number_types::RangeStart;
 use refusal::Refusal;
 
 // A range as its start and its length in one number: packed numbers rise by start, then by length.
-#[derive(Drop)]
+#[derive(Clone, Copy)]
 pub struct PackedPosting(pub u64);
 
 // What packing a range comes to.
