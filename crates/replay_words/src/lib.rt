@@ -1,6 +1,7 @@
 // A recorded case is a row of words: what kind it is, its settings, for each of its slices where that starts and where the last one
 // ends, and the slices. Here the words are read as numbers of other kinds. A word that is not there is 0, a slice that is not there empty.
 #![tactic(auto)]
+
 ghost use Rattle.std.specs.Prelude.{◌≡◌, ◌+◌, ◌≤◌, length, get_or};
 ghost use Rattle.float32.specs.Key.{value_of};
 ghost use Rattle.replay_words.specs.Words.{long, start_of, end_of, slice_at, spread, itself, low};
