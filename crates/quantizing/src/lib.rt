@@ -1,5 +1,6 @@
 // Quantizing: the values of a summary as one byte each, between their least and their greatest, and the values that the bytes stand for.
 #![tactic(auto)]
+
 ghost use Rattle.std.specs.Prelude.{◌≡◌, ◌++◌, map, ◌≤◌, length, drop};
 ghost use Rattle.quantizing.specs.Quantizing.{extent_of, step_of, code_of, read_back, left, quantized, step_allowed};
 

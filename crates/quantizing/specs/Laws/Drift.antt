@@ -2,7 +2,7 @@
 use Rattle.std.specs.Prelude.{◌≡◌, refl, ◌⊎◌, Bool, true, pos, Float}
 use Rattle.std.proofs.Common.{sym, ◌∙◌, inl, inr, le_refl, le_trans, le_of_eq, lt_of_lt_of_le, mul-le-mul_right, mul_right_comm, mul-one, one-mul, mul-pos, div-lt_iff_lt-mul, lit<, lit≤}
 use Rattle.std.proofs.Math.Path.{ap, subst}
-use Prim.Native.Nat.{ℕ, ◌+◌, ◌-◌, ◌*◌, ◌/◌, ◌^◌, ◌≤◌, ◌<◌, min, max}
+use Prim.Native.Nat.{ℕ, ◌+◌, ◌*◌, ◌/◌, ◌^◌, ◌≤◌, ◌<◌, min, max}
 use native.Mathlib.Omega.{arith}
 use Rattle.std.proofs.Math.Bool.{false}
 use Rattle.std.proofs.Math.Dec.{T}

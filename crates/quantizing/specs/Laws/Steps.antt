@@ -1,5 +1,5 @@
 -- The step between two values in bound, the first at most the second: at most 2 ^ 27 and not below zero, so a list may store it.
-use Rattle.std.specs.Prelude.{◌≡◌, ℕ, ◌+◌, ◌-◌, ◌*◌, ◌^◌, ◌≤◌, ◌<◌, Bool, true, false, ◌&&◌, ◌||◌, pos, T, ltb, eqb, Float}
+use Rattle.std.specs.Prelude.{◌≡◌, ℕ, ◌+◌, ◌-◌, ◌*◌, ◌^◌, ◌≤◌, Bool, true, false, ◌&&◌, ◌||◌, pos, T, ltb, eqb, Float}
 use Rattle.std.proofs.Common.{sym, ap, ◌∙◌, subst, le_refl, le_trans, le_of_eq, eq-zero-or-pos, mul-one, zero-mul, arith, inl, inr, lt→ltb, lit<, lit≤}
 use Rattle.std.proofs.Math.Nat.{eq_of_mul-eq-mul_right}
 use Rattle.std.specs.Float.{nan, inf, fin, binary32}
