@@ -1,5 +1,6 @@
 // Buffers held against the numbers that are expected in front of them, with one number everywhere past these.
 #![tactic(auto)]
+
 ghost use Rattle.std.specs.Prelude.{◌≡◌, map, ◌<◌};
 ghost use Rattle.float32.specs.Key.{key_of};
 ghost use Rattle.replay_expected.specs.Held.{held};

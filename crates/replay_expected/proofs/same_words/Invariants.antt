@@ -1,0 +1,13 @@
+-- The loop keeps: what has been seen and what is left come to the whole.
+use mathlib.Core.Path.{◌≡◌}
+use Prim.Native.Nat.{◌≤◌, ◌-◌}
+use mathlib.Core.Bool.{◌&&◌}
+use lib.ListN.{length, drop}
+use Rattle.replay_expected.specs.Held.{held}
+use Rattle.replay_expected.proofs.same_words.Given as goal
+
+abbrev pub invariant-loop-i : goal.invariant-loop-i
+invariant-loop-i l = (l.i ≤ length l.words) × (l.same && held (drop l.i l.words) (drop l.i l.expected) l.rest ≡ held l.words l.expected l.rest)
+
+abbrev pub decreases-loop-i : goal.decreases-loop-i
+decreases-loop-i l = length l.words - l.i
