@@ -1,6 +1,7 @@
 // The kept list: the k best ranges found so far, best first. It lies in lent memory as two slices side by side, packed
 // numbers and scores, with the number of entries beside them. A push with its refusals stands in crate kept_push.
 #![tactic(auto)]
+
 ghost use Rattle.std.specs.Prelude.{◌≡◌, ◌≤◌, ◌<◌, ◌+◌, ◌-◌, length as len};
 ghost use Rattle.std.specs.Float.Ieee.{lt};
 ghost use Rattle.sequences.specs.Lists.{every};
@@ -10,7 +11,7 @@ ghost use Rattle.kept_list.specs.Place.{Placed};
 ghost use Rattle.kept_list.specs.Inserting.{Fitting, Worse, moved_down, Found};
 
 // A range found, with its score.
-#[derive(Drop)]
+#[derive(Clone, Copy)]
 pub struct Scored {
     pub packed: u64,
     pub score: f32,

@@ -1,0 +1,21 @@
+-- `kept_list::all_below` meets its contract: what was found so far is the test of the scores so far.
+use native.Mathlib.Omega.{arith}
+use mathlib.Core.Path.{refl}
+use lib.Ieee.{nan}
+use Rattle.float32.specs.Laws.Tests.{yes}
+use Rattle.kept_list.proofs.Placing.{every_more, every-all, all_fit}
+use Rattle.kept_list.proofs.all_below.Goals as goal
+
+pub loop-i-init : goal.loop-i-init
+loop-i-init c = (refl, λ z. absurd (omega arith))
+
+pub loop-i-preserved : goal.loop-i-preserved
+loop-i-preserved c = let l = c.loop-i in (every_more _ _ nan l.ok l.i (omega arith) l.invariant.0, λ z. c.type_inv.scores)
+
+pub returns : goal.returns
+returns c =
+    let l = c.loop-i in
+    record {
+      answer = every-all _ _ nan l.ok l.i c.loop-i-test.false l.invariant.0;
+      fits = (yes _ c.well_formed.1.0.1, all_fit c.args.scores.now (λ z. l.invariant.1 (omega (arith, z, c.loop-i-test.false))));
+    }
