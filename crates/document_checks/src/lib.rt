@@ -1,6 +1,7 @@
 // Whether documents are as they should be: their offsets, ids, and the terms of those that are listed. Nothing is assumed of the slices:
 // each check answers for whatever it is lent.
 #![tactic(auto)]
+
 ghost use Rattle.std.specs.Prelude.{◌≡◌, length};
 ghost use Rattle.documents.specs.Documents.{documents, terms};
 ghost use Rattle.documents.specs.Checks.{offsets_hold_free, offsets_hold, ids_hold, slices_hold, slices_hold_below, terms_hold_below, documents_hold};
