@@ -2,11 +2,16 @@
 // it was made. A case is a row of words; the first one says of what kind it is, and 8 more than that that its answer is damaged: such a
 // one must differ, so that a judge which always agrees is seen.
 #![tactic(auto)]
+
 mod builds;
 mod record;
 
 ghost use Rattle.std.specs.Prelude.{◌≡◌};
 ghost use Rattle.replay.specs.Kinds.{agrees_by};
+
+use std::fs::File;
+use std::io;
+use std::io::Read;
 
 // Whether the proved function's answer is the recorded one.
 fn agrees(kind: u32, words: &[u32]) -> bool
@@ -24,11 +29,11 @@ fn agrees(kind: u32, words: &[u32]) -> bool
 }
 
 // Replays one case; false where there is none left.
-fn replay_one(fd: i32, cases: &mut [u64; 8], wrong: &mut u64) -> bool {
+fn replay_one<R: Read>(from: &mut R, cases: &mut [u64; 8], wrong: &mut u64) -> io::Result<bool> {
     let mut words = [0u32; 1024];
-    let count = record::next(fd, &mut words);
+    let count = record::next(from, &mut words)?;
     if count == 0 {
-        return false;
+        return Ok(false);
     }
     let kind = words[0];
     let same = agrees(kind % 8, &words);
@@ -40,55 +45,52 @@ fn replay_one(fd: i32, cases: &mut [u64; 8], wrong: &mut u64) -> bool {
     if same != (kind < 8) {
         *wrong = std::num::wrapping_add_u64(*wrong, 1);
     }
-    true
+    Ok(true)
 }
 
 // Writes a number and what it counts.
-fn say(name: &[u8], count: u64) {
-    io::print_decimal(1, count);
-    io::write_all(1, name);
+fn say(rt: &impl Print, name: &str, count: u64) -> io::Result<()> {
+    println!(rt; "{count} {name}")
 }
 
 // Writes how many cases of a kind there were.
-fn say_cases(cases: &[u64; 8], kind: usize, name: &[u8]) {
+fn say_cases(rt: &impl Print, cases: &[u64; 8], kind: usize, name: &str) -> io::Result<()> {
     if kind < 8 {
-        say(name, cases[kind]);
+        say(rt, name, cases[kind])?;
     }
+    Ok(())
 }
 
 // Writes what was replayed, kind by kind, and how many answers differ.
-fn report(cases: &[u64; 8], wrong: u64) {
-    say_cases(cases, 1, b" ranges packed\n");
-    say_cases(cases, 2, b" lists cut into blocks\n");
-    say_cases(cases, 3, b" summaries quantized\n");
-    say_cases(cases, 4, b" entries pushed\n");
-    say_cases(cases, 5, b" lists searched\n");
-    say_cases(cases, 6, b" lists built\n");
-    say_cases(cases, 0, b" damaged answers\n");
+fn report(rt: &impl Print, cases: &[u64; 8], wrong: u64) -> io::Result<()> {
+    say_cases(rt, cases, 1, "ranges packed")?;
+    say_cases(rt, cases, 2, "lists cut into blocks")?;
+    say_cases(rt, cases, 3, "summaries quantized")?;
+    say_cases(rt, cases, 4, "entries pushed")?;
+    say_cases(rt, cases, 5, "lists searched")?;
+    say_cases(rt, cases, 6, "lists built")?;
+    say_cases(rt, cases, 0, "damaged answers")?;
     say(
-        b" judged wrong: an answer that differs from the original's, or a damaged one that does not\n",
+        rt,
+        "judged wrong: an answer that differs from the original's, or a damaged one that does not",
         wrong,
-    );
+    )
 }
 
 // Replays every case of the file.
-fn replay_all(fd: i32) {
+fn replay_all<R: Read>(rt: &impl Print, from: &mut R) -> io::Result<()> {
     let mut cases = [0u64; 8];
     let mut wrong = 0u64;
     // a proved loop has to end, and nothing says that a file does: no run uses these turns up
-    let mut turns = u64::MAX;
-    while turns > 0 && replay_one(fd, &mut cases, &mut wrong) {
-        turns -= 1;
+    for _ in 0..u64::MAX {
+        if !replay_one(from, &mut cases, &mut wrong)? {
+            break;
+        }
     }
-    report(&cases, wrong);
+    report(rt, &cases, wrong)
 }
 
-fn main() {
-    let fd = os::open_read(b"cases");
-    if fd < 0 {
-        os::fail(b"cases");
-        return;
-    }
-    replay_all(fd);
-    libc::close(fd);
+fn main(rt: HostRuntime) -> io::Result<()> {
+    let mut file = File::open(&rt, "cases")?;
+    replay_all(&rt, &mut file)
 }

@@ -2,6 +2,9 @@
 // itself, 252 stands before a word of two bytes and 253 before one of four, the low byte first.
 ghost use Rattle.std.specs.Prelude.{◌<◌, ◌≤◌};
 
+use std::io;
+use std::io::{ErrorKind, Read};
+
 // A byte as a word.
 fn wide(x: u8) -> u32
     ensures { result < 256 }
@@ -66,25 +69,34 @@ fn expand(n: usize, bytes: &[u8; 4096], words: &mut [u32]) -> usize
 }
 
 // Reads so many bytes; false where there are fewer, or no room for them.
-fn read(fd: i32, n: usize, bytes: &mut [u8]) -> bool {
+fn read<R: Read>(from: &mut R, n: usize, bytes: &mut [u8]) -> io::Result<bool> {
     if n <= bytes.len() {
-        return io::read_full(fd, &mut bytes[..n]) == n;
+        return match from.read_exact(&mut bytes[..n]) {
+            Ok(()) => Ok(true),
+            Err(e) => {
+                if e.kind() == ErrorKind::UnexpectedEof {
+                    Ok(false)
+                } else {
+                    Err(e)
+                }
+            }
+        };
     }
-    false
+    Ok(false)
 }
 
 // The words of the next case; none where the file ends.
-pub(crate) fn next(fd: i32, words: &mut [u32]) -> usize {
+pub(crate) fn next<R: Read>(from: &mut R, words: &mut [u32]) -> io::Result<usize> {
     let mut bytes = [0u8; 4096];
-    if !read(fd, 2, &mut bytes) {
-        return 0;
+    if !read(from, 2, &mut bytes)? {
+        return Ok(0);
     }
     let n = (byte_at(&bytes, 0) + 256 * byte_at(&bytes, 1)) as usize;
     if n > 4096 {
-        return 0;
+        return Ok(0);
     }
-    if !read(fd, n, &mut bytes) {
-        return 0;
+    if !read(from, n, &mut bytes)? {
+        return Ok(0);
     }
-    expand(n, &bytes, words)
+    Ok(expand(n, &bytes, words))
 }

@@ -1,16 +1,18 @@
 // The tour: a few plan pages, posting lists built of them, and questions. It shows which pages a search finds, and for every other page
 // of the list the rule by which it was not kept. It reads nothing.
 #![tactic(auto)]
+
 mod pages;
 mod story;
 mod text;
 
 use pages::Documents;
+use std::io;
 use story::Question;
-use text::{most, say, say_one, say_with};
+use text::{most, name};
 
 // The bay asked for, the list's first and last page, its block size, and the heap factor.
-#[derive(Drop)]
+#[derive(Clone, Copy)]
 struct Row(u64, u64, u64, u64, f32);
 
 // The searches to tell.
@@ -22,15 +24,12 @@ const SEARCHES: [Row; 4] = [
 ];
 
 // A search told, after its question where the one before was of another bay; its bay.
-fn tell_next(row: Row, before: u64, documents: Documents) -> u64 {
+fn tell_next(rt: &impl Print, row: Row, before: u64, documents: &Documents) -> io::Result<u64> {
     let bay = row.0;
     if bay != before {
-        let text: &[u8] = b"\nQuestion: what is planned in @?   weights: @ 1, planned 2\n";
-        say_with(text, bay, bay, 0, 0);
+        let asked = name(bay);
+        println!(rt; "\nQuestion: what is planned in {asked}?   weights: {asked} 1, planned 2")?;
     }
-    let offsets = documents.offsets;
-    let components = documents.components;
-    let values = documents.values;
     let question = Question {
         bay,
         first: row.1,
@@ -44,39 +43,44 @@ fn tell_next(row: Row, before: u64, documents: Documents) -> u64 {
         pages::PAGE_COUNT,
     );
     let first = most(question.first, end);
-    story::tell(question, &offsets, &components, &values, &ids[first..end]);
-    bay
+    story::tell(
+        rt,
+        question,
+        &documents.offsets,
+        &documents.components,
+        &documents.values,
+        &ids[first..end],
+    )?;
+    Ok(bay)
 }
 
-fn tell_all(documents: Documents) {
+fn tell_all(rt: &impl Print, documents: &Documents) -> io::Result<()> {
     let mut bay = pages::BLANK;
-    let mut n = 0usize;
-    while n < 4 {
-        bay = tell_next(SEARCHES[n], bay, documents);
-        n += 1;
+    for row in SEARCHES {
+        bay = tell_next(rt, row, bay, documents)?;
     }
+    Ok(())
 }
 
 // The pages that name a bay.
-fn say_naming(bay: u64) {
-    let mut page = 0u64;
-    while page < pages::PAGE_COUNT as u64 {
+fn say_naming(rt: &impl Print, bay: u64) -> io::Result<()> {
+    for page in 0..pages::PAGE_COUNT as u64 {
         if pages::has(page, bay) {
-            say_one(b"# ", page);
+            print!(rt; "{page} ")?;
         }
-        page += 1;
     }
+    Ok(())
 }
 
-fn main() {
-    say(b"Eleven plan pages: ");
-    say_naming(pages::BAY_4);
-    say(b"name bay 4, ");
-    say_naming(pages::BAY_6);
-    say(
-        b"name bay 6. Terms that matter here: bay 4, bay 6, planned.\n\
+fn main(rt: HostRuntime) -> io::Result<()> {
+    print!(rt; "Eleven plan pages: ")?;
+    say_naming(&rt, pages::BAY_4)?;
+    print!(rt; "name bay 4, ")?;
+    say_naming(&rt, pages::BAY_6)?;
+    println!(rt;
+        "name bay 6. Terms that matter here: bay 4, bay 6, planned.\n\
         A page's score is the sum of its terms' values times the question's weights. The two best pages are kept.\n\
-        A list is built in blocks of so many pages; a block's summary keeps the 3 greatest terms of its pages.\n",
-    );
-    tell_all(pages::as_documents());
+        A list is built in blocks of so many pages; a block's summary keeps the 3 greatest terms of its pages."
+    )?;
+    tell_all(&rt, &pages::as_documents())
 }

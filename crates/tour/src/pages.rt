@@ -91,8 +91,7 @@ pub(crate) fn as_documents() -> Documents {
     let mut components = [0u32; TERM_COUNT];
     let mut values = [0.0f32; TERM_COUNT];
     let mut n = 0usize;
-    let mut cell = 0usize;
-    while cell < CELLS {
+    for cell in 0..CELLS {
         let page = cell / TERMS;
         let term = cell % TERMS;
         let x = value(page as u64, term as u64);
@@ -104,7 +103,6 @@ pub(crate) fn as_documents() -> Documents {
             }
         }
         offsets[page + 1] = n as u64;
-        cell += 1;
     }
     Documents {
         offsets,

@@ -1,13 +1,14 @@
 // The story of one search, in the order in which it is printed: what it found, its turns, why each page of the list that is not kept is
 // not, and what that shows. Then how the list is built and searched.
 use crate::pages;
-use crate::text::{say, say_one, say_with};
-use build_meaning::{BuildAnswer, BuiltSizes};
+use crate::text::{Hundredths, name};
+use build_meaning::BuildAnswer;
 use configuration::{BlockingStrategy, SummarizationStrategy};
 use explain::{Fate, TurnSeen};
 use packing::PackedPosting;
 use page_number::PageNumber;
 use search_probe::Answer;
+use std::io;
 
 // So many pages are kept, and so many terms in a block's summary.
 const KEPT: usize = 2;
@@ -18,7 +19,7 @@ const SUMMARY_TERMS: u64 = 3;
 const ROOM: usize = pages::TERM_COUNT + 1;
 
 // What is planned in a bay, asked of a list: its first and last page, its block size, and the heap factor.
-#[derive(Drop)]
+#[derive(Clone, Copy)]
 pub(crate) struct Question {
     pub(crate) bay: u64,
     pub(crate) first: u64,
@@ -27,8 +28,8 @@ pub(crate) struct Question {
     pub(crate) factor: f32,
 }
 
-fn hundredths(x: f32) -> u64 {
-    float32::scaled_length(x, 100)
+fn hundredths(x: f32) -> Hundredths {
+    Hundredths(float32::scaled_length(x, 100))
 }
 
 // The page at a position of the list.
@@ -36,141 +37,166 @@ fn page_at(question: Question, position: u64) -> u64 {
     std::num::wrapping_add_u64(question.first, position)
 }
 
-fn say_heading(question: Question) {
+fn say_heading(rt: &impl Print, question: Question) -> io::Result<()> {
     let first = question.first;
     let last = question.last;
     let size = question.block_size;
     if last == page_at(question, 1) {
-        say_with(b"\nPages # and # in blocks of #", first, last, size, 0);
+        print!(rt; "\nPages {first} and {last} in blocks of {size}")?;
     } else {
-        say_with(b"\nPages # to # in blocks of #", first, last, size, 0);
+        print!(rt; "\nPages {first} to {last} in blocks of {size}")?;
     }
     let factor = hundredths(question.factor);
-    if factor == 0 {
-        say(b", heap factor 0\n");
+    if factor.0 == 0 {
+        println!(rt; ", heap factor 0")
     } else {
-        say_one(b", heap factor %\n", factor);
+        println!(rt; ", heap factor {factor}")
     }
 }
 
 // What a search answers; whether it is neither refused nor stopped.
-fn say_answer(answer: Answer) -> bool {
+fn say_answer(rt: &impl Print, answer: Answer) -> io::Result<bool> {
     match answer {
         Answer::Found {
             kept,
             evaluated,
             skipped,
         } => {
-            let text: &[u8] = b"  the search answers: kept #, evaluated #, blocks skipped #\n";
-            say_with(text, kept, evaluated, skipped, 0);
-            true
+            println!(rt;
+                "  the search answers: kept {kept}, evaluated {evaluated}, blocks skipped {skipped}"
+            )?;
+            Ok(true)
         }
         Answer::Stopped { reason, position } => {
-            let text: &[u8] = b"  the search stops with # at posting #\n";
-            say_with(text, reason.number(), position, 0, 0);
-            false
+            let number = reason.number();
+            println!(rt; "  the search stops with {number} at posting {position}")?;
+            Ok(false)
         }
         Answer::Refused(reason) => {
-            say_one(b"  the search is refused with #\n", reason.number());
-            false
+            let number = reason.number();
+            println!(rt; "  the search is refused with {number}")?;
+            Ok(false)
         }
     }
 }
 
 // A heading, and that nothing comes below it where nothing does.
-fn say_part(heading: &[u8], count: u64) {
-    say(heading);
+fn say_part(rt: &impl Print, heading: &str, count: u64) -> io::Result<()> {
+    println!(rt; "  {heading}")?;
     if count == 0 {
-        say(b"    none\n");
+        println!(rt; "    none")?;
     }
+    Ok(())
 }
 
 // A page by its number, its state, and its score to the hundredth below it.
-fn say_page(page: u64, score: f32) {
-    let text: &[u8] = b"    page ~  &  score %";
-    say_with(text, page, pages::state(page), hundredths(score), 0);
+fn say_page(rt: &impl Print, page: u64, score: f32) -> io::Result<()> {
+    let state = name(pages::state(page));
+    let shown = hundredths(score);
+    print!(rt; "    page {page:>2}  {state:<11}  score {shown}")
 }
 
 // The page of a kept posting.
-fn say_kept(offsets: &[u64], posting: PackedPosting, score: f32) {
+fn say_kept(
+    rt: &impl Print,
+    offsets: &[u64],
+    posting: PackedPosting,
+    score: f32,
+) -> io::Result<()> {
     if let PageNumber::Document(id) = page_number::page_number(offsets, posting.unpack().start) {
-        say_page(id.0, score);
-        say(b"\n");
+        say_page(rt, id.0, score)?;
+        println!(rt; "")?;
     }
+    Ok(())
 }
 
 // The kept list, best first.
-fn say_found(offsets: &[u64], length: u64, packed: &[u64; KEPT], scores: &[f32; KEPT]) {
-    say_part(b"  found, best first\n", length);
-    let mut i = 0u64;
-    while i < length {
+fn say_found(
+    rt: &impl Print,
+    offsets: &[u64],
+    length: u64,
+    packed: &[u64; KEPT],
+    scores: &[f32; KEPT],
+) -> io::Result<()> {
+    say_part(rt, "found, best first", length)?;
+    for i in 0..length {
         let at = i as usize;
         let posting = PackedPosting(cells::at_u64(packed, at, 0));
-        say_kept(offsets, posting, cells::at_f32(scores, at, 0.0));
-        i += 1;
+        say_kept(rt, offsets, posting, cells::at_f32(scores, at, 0.0))?;
     }
+    Ok(())
 }
 
 // A turn that was taken, counted from 1: the block's score, and the bar that it had to reach, which there is once two pages are kept.
-fn say_turn(before: u64, seen: TurnSeen) {
+fn say_turn(rt: &impl Print, before: u64, seen: TurnSeen) -> io::Result<()> {
     if let TurnSeen::Taken(turn) = seen {
         let at = std::num::wrapping_add_u64(before, 1);
-        let block = turn.block;
+        let block = turn.block.0;
         let score = hundredths(turn.score);
         let bar = hundredths(turn.bar);
         if turn.skipped {
-            let text: &[u8] = b"    turn #  block #  score %  bar %  skipped\n";
-            say_with(text, at, block.0, score, bar);
+            println!(rt; "    turn {at}  block {block}  score {score}  bar {bar}  skipped")
         } else if turn.full {
-            let text: &[u8] = b"    turn #  block #  score %  bar %  searched\n";
-            say_with(text, at, block.0, score, bar);
+            println!(rt; "    turn {at}  block {block}  score {score}  bar {bar}  searched")
         } else {
-            let text: &[u8] = b"    turn #  block #  score %  no bar    searched\n";
-            say_with(text, at, block.0, score, 0);
+            println!(rt; "    turn {at}  block {block}  score {score}  no bar    searched")
         }
+    } else {
+        Ok(())
     }
 }
 
 // Why a page is not kept.
-fn say_reason(fate: Fate) {
+fn say_reason(rt: &impl Print, fate: Fate) -> io::Result<()> {
     match fate {
-        Fate::Read => say_one(b"  evaluated, and not among the # best\n", KEPT as u64),
-        Fate::VisitedBefore => say(b"  its start was visited before: an empty page shares it\n"),
-        Fate::Skipped { score, bar } => {
-            let text: &[u8] = b"  its block was skipped: block score %, bar %\n";
-            say_with(text, hundredths(score), hundredths(bar), 0, 0)
+        Fate::Read => println!(rt; "  evaluated, and not among the {KEPT} best"),
+        Fate::VisitedBefore => {
+            println!(rt; "  its start was visited before: an empty page shares it")
         }
-        Fate::InNoBlock => say(b"  in no block\n"),
-        Fate::NotReached => say(b"  not reached\n"),
+        Fate::Skipped { score, bar } => {
+            let dot = hundredths(score);
+            let least = hundredths(bar);
+            println!(rt; "  its block was skipped: block score {dot}, bar {least}")
+        }
+        Fate::InNoBlock => println!(rt; "  in no block"),
+        Fate::NotReached => println!(rt; "  not reached"),
     }
 }
 
-// A page that is not kept, and why. Whether it is missed: it is better than the worst that is kept, and its block scores 0, so that the
-// block's summary keeps no term of the question, and is skipped.
-fn say_left(page: u64, score: f32, fate: Fate, worst: f32) -> bool {
-    say_page(page, score);
-    say_reason(fate);
+// Whether a page is missed that is not kept: it is better than the worst that is kept, and its block scores 0, so that the block's
+// summary keeps no term of the question, and is skipped.
+fn is_missed(score: f32, fate: Fate, worst: f32) -> bool {
     if let Fate::Skipped { score: dot, bar: _ } = fate {
         return (dot == 0.0) & (score > worst);
     }
     false
 }
 
+// A page that is not kept, and why; whether it is missed.
+fn say_left(rt: &impl Print, page: u64, score: f32, fate: Fate, worst: f32) -> io::Result<bool> {
+    say_page(rt, page, score)?;
+    say_reason(rt, fate)?;
+    Ok(is_missed(score, fate, worst))
+}
+
 // Why a page is missed that is better than one that is kept: of the question's terms those that it has are not in its block's summary.
-fn say_missed(page: u64, bay: u64) {
+fn say_missed(rt: &impl Print, page: u64, bay: u64) -> io::Result<()> {
+    let state = name(pages::state(page));
     let score = float32::scaled_length(pages::score(page, bay), 1);
-    let text: &[u8] = b"  Page # is @ and would score #. Its terms ";
-    say_with(text, page, pages::state(page), score, 0);
+    print!(rt; "  Page {page} is {state} and would score {score}. Its terms ")?;
     if pages::has(page, bay) {
-        say_one(b"@ and ", bay);
+        let asked = name(bay);
+        print!(rt; "{asked} and ")?;
     }
-    let rule: &[u8] = b"planned are not among the # that its block's summary keeps, so the\n  \
-        block scores 0, and it is skipped at its turn: missed by rule. With heap factor 0 no block is skipped:\n";
-    say_one(rule, SUMMARY_TERMS);
+    println!(rt;
+        "planned are not among the {SUMMARY_TERMS} that its block's summary keeps, so the\n  \
+        block scores 0, and it is skipped at its turn: missed by rule. With heap factor 0 no block is skipped:"
+    )
 }
 
 // The course of a search: its turns, and why every page that it does not keep is not kept.
 fn tell_course(
+    rt: &impl Print,
     question: Question,
     query_components: &[u32],
     query_values: &[f32],
@@ -184,11 +210,10 @@ fn tell_course(
     length: u64,
     packed: &[u64],
     worst: f32,
-) {
+) -> io::Result<()> {
     let count = postings.len() as u64;
-    say_part(b"  turns, the block of greatest score first\n", turns);
-    let mut t = 0u64;
-    while t < turns {
+    say_part(rt, "turns, the block of greatest score first", turns)?;
+    for t in 0..turns {
         let seen = explain_small::see_turn(
             t,
             query_components,
@@ -202,13 +227,11 @@ fn tell_course(
             block_scores,
             block_order,
         );
-        say_turn(t, seen);
-        t += 1;
+        say_turn(rt, t, seen)?;
     }
-    say_part(b"  not kept\n", std::num::wrapping_sub_u64(count, length));
+    say_part(rt, "not kept", std::num::wrapping_sub_u64(count, length))?;
     let mut missed = count;
-    let mut i = 0u64;
-    while i < count {
+    for i in 0..count {
         let posting = PackedPosting(cells::at_u64(postings, i as usize, 0));
         if !explain::is_kept(posting, length, packed) {
             let fate = explain_small::fate_of(
@@ -226,24 +249,25 @@ fn tell_course(
                 block_order,
             );
             let page = page_at(question, i);
-            if say_left(page, pages::score(page, question.bay), fate, worst) {
+            if say_left(rt, page, pages::score(page, question.bay), fate, worst)? {
                 missed = i;
             }
         }
-        i += 1;
     }
     if missed < count {
-        say_missed(page_at(question, missed), question.bay);
+        say_missed(rt, page_at(question, missed), question.bay)?;
     }
     if turns == 0 {
-        let text: &[u8] =
-            b"  A list shorter than the block size has no block, so none of it is searched: with blocks of # pages it has one.\n";
-        say_one(text, count);
+        println!(rt;
+            "  A list shorter than the block size has no block, so none of it is searched: with blocks of {count} pages it has one."
+        )?;
     }
+    Ok(())
 }
 
 // A built list searched, the blocks of greater score first, and told.
 fn search_built(
+    rt: &impl Print,
     question: Question,
     offsets: &[u64],
     components: &[u32],
@@ -256,7 +280,7 @@ fn search_built(
     codes: &[u8],
     minimums: &[f32],
     steps: &[f32],
-) {
+) -> io::Result<()> {
     let query_components = [
         pages::component(question.bay),
         pages::component(pages::PLANNED),
@@ -290,9 +314,10 @@ fn search_built(
         &mut block_scores,
         &mut block_order,
     );
-    if say_answer(answer) {
-        say_found(offsets, length, &packed, &scores);
+    if say_answer(rt, answer)? {
+        say_found(rt, offsets, length, &packed, &scores)?;
         tell_course(
+            rt,
             question,
             &query_components,
             &query_values,
@@ -306,8 +331,9 @@ fn search_built(
             length,
             &packed,
             search_held::worst_kept(length, &scores),
-        );
+        )?;
     }
+    Ok(())
 }
 
 // The front of an array: what was built of it.
@@ -338,13 +364,14 @@ fn front_f32(all: &[f32], count: u64) -> &[f32] {
 
 // A question put to its list, which is built and searched.
 pub(crate) fn tell(
+    rt: &impl Print,
     question: Question,
     offsets: &[u64],
     components: &[u32],
     values: &[f32],
     ids: &[u64],
-) {
-    say_heading(question);
+) -> io::Result<()> {
+    say_heading(rt, question)?;
     let mut postings = [0u64; ROOM];
     let mut block_offsets = [0u64; ROOM];
     let mut summary_components = [0u32; ROOM];
@@ -377,10 +404,12 @@ pub(crate) fn tell(
     );
     match answer {
         BuildAnswer::Refused(reason) => {
-            say_one(b"  the build is refused with #\n", reason.number())
+            let number = reason.number();
+            println!(rt; "  the build is refused with {number}")
         }
         BuildAnswer::Built(sizes) => {
             search_built(
+                rt,
                 question,
                 offsets,
                 components,
