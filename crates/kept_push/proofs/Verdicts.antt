@@ -1,12 +1,12 @@
 -- The tests of a push, by their cases.
 use Prim.Native.Nat.{ℕ, suc, ◌≤◌, min}
 use mathlib.Core.Path.{◌≡◌, sym, ap, ◌∙◌}
-use mathlib.Core.Bool.{Bool, true, false, not, ◌&&◌}
+use mathlib.Core.Bool.{Bool, true, false, ◌&&◌}
 use mathlib.Core.List.{List}
 use lib.ListN.{length}
 use lib.Ieee.{Float, eq}
 use lib.Dec.{leb}
-use borrow.Author.Tests.{leb-true, eq-eqb, ne_eqb, not-true, not-false}
+use borrow.Author.Tests.{leb-true, eq-eqb, ne_eqb}
 use Rattle.sequences.specs.Laws.Lists.{both}
 use Rattle.refusal.specs.declared.Refusal.{Refusal}
 use Rattle.refusal.specs.declared.Refusal.TheVariants.{NothingToKeep, WrongKeptList, BufferTooShort}
@@ -22,21 +22,21 @@ module _ (k n : ℕ) (ps : List ℕ) (xs : List Float) where
   abbrev held : Bool
   held = leb n k && (leb n (length ps) && leb n (length xs))
 
-  pub ill-held : not held ≡ true → false ≡ well_kept k (lent n ps xs)
+  pub ill-held : held ≡ false → false ≡ well_kept k (lent n ps xs)
   unfolding well_kept
-  ill-held h = rw (not-true held h)
+  ill-held h = rw h
 
-  pub well-held : not held ≡ false → (n ≤ length ps) × (n ≤ length xs)
+  pub well-held : held ≡ true → (n ≤ length ps) × (n ≤ length xs)
   well-held h =
-      let s = both (leb n k) (leb n (length ps) && leb n (length xs)) (not-false held h) in
+      let s = both (leb n k) (leb n (length ps) && leb n (length xs)) h in
       let t = both (leb n (length ps)) (leb n (length xs)) s.1 in
       (leb-true n (length ps) t.0, leb-true n (length xs) t.1)
 
-  pub well-kept-is : not held ≡ false → (r : Bool) → r ≡ sound (entries (lent n ps xs)) → r ≡ well_kept k (lent n ps xs)
+  pub well-kept-is : held ≡ true → (r : Bool) → r ≡ sound (entries (lent n ps xs)) → r ≡ well_kept k (lent n ps xs)
   unfolding well_kept
-  well-kept-is h r e = rw (not-false held h) e
+  well-kept-is h r e = rw h e
 
-  pub none_kept : not held ≡ false → n ≡ 0 → true ≡ well_kept k (lent n ps xs)
+  pub none_kept : held ≡ true → n ≡ 0 → true ≡ well_kept k (lent n ps xs)
   none_kept h z = well-kept-is h true (ap (λ m. sound (entries (lent m ps xs))) (sym z))
 
 -- ---- the verdict
@@ -46,21 +46,21 @@ module _ (k : ℕ) (e : Scored) (l : Lent) where
   keeps-nothing z = rw (eq-eqb k 0 z)
 
   module _ (some : k ≡ 0 → ⊥) (w : Bool) (v : w ≡ well_kept k l) where
-    tested : (b : Bool) → not (w && eq e.score e.score) ≡ b → not (well_kept k l && is_number e) ≡ b
-    tested b h = ap not (ap (λ x. x && is_number e) (sym v) ∙ ap (λ x. w && x) (sym (eq_self e.score))) ∙ h
+    tested : (b : Bool) → (w && eq e.score e.score) ≡ b → (well_kept k l && is_number e) ≡ b
+    tested b h = ap (λ x. x && is_number e) (sym v) ∙ ap (λ x. w && x) (sym (eq_self e.score)) ∙ h
 
-    pub wrong-list : not (w && eq e.score e.score) ≡ true → Refused WrongKeptList ≡ verdict_of k e l
+    pub wrong-list : (w && eq e.score e.score) ≡ false → Refused WrongKeptList ≡ verdict_of k e l
     unfolding verdict_of
-    wrong-list h = rw (ne_eqb k 0 some, tested true h)
+    wrong-list h = rw (ne_eqb k 0 some, tested false h)
 
-    module _ (h : not (w && eq e.score e.score) ≡ false) (m : ℕ) (a : m ≡ min (suc l.size) k) where
-      pub too_short : not (leb m (length l.packed) && leb m (length l.scores)) ≡ true → Refused BufferTooShort ≡ verdict_of k e l
+    module _ (h : (w && eq e.score e.score) ≡ true) (m : ℕ) (a : m ≡ min (suc l.size) k) where
+      pub too_short : (leb m (length l.packed) && leb m (length l.scores)) ≡ false → Refused BufferTooShort ≡ verdict_of k e l
       unfolding verdict_of
-      too_short g = rw (ne_eqb k 0 some, tested false h, rw a at g)
+      too_short g = rw (ne_eqb k 0 some, tested true h, rw a at g)
 
-      pub admitted : not (leb m (length l.packed) && leb m (length l.scores)) ≡ false → Accepted ≡ verdict_of k e l
+      pub admitted : (leb m (length l.packed) && leb m (length l.scores)) ≡ true → Accepted ≡ verdict_of k e l
       unfolding verdict_of
-      admitted g = rw (ne_eqb k 0 some, tested false h, rw a at g)
+      admitted g = rw (ne_eqb k 0 some, tested true h, rw a at g)
 
   -- ---- what a push leaves
   module _ (v : Verdict) (a : v ≡ verdict_of k e l) where

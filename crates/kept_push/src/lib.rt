@@ -1,5 +1,6 @@
 // A push onto the kept list with its refusals, and the check of a kept list that a search makes too.
 #![tactic(auto)]
+
 ghost use Rattle.std.specs.Prelude.{◌≡◌, suc, min, ◌-◌, ◌≤◌, ◌<◌, length as len};
 ghost use Rattle.kept_list.specs.Lent.{lent, entry_at, entries};
 ghost use Rattle.kept_list.specs.Push.{sound, well_kept, verdict_of, left, pushed};
