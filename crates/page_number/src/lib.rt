@@ -1,5 +1,6 @@
 // Which document a start belongs to.
 #![tactic(auto)]
+
 ghost use Rattle.std.specs.Prelude.{◌≡◌, ◌≤◌, length, true};
 ghost use Rattle.sequences.specs.Lists.{never_falls};
 ghost use Rattle.page_number.specs.Answers.{page_number, Found};
