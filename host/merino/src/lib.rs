@@ -4,7 +4,7 @@
 //! outside the buffers that it is lent, and wrong input gets a numbered [`Refusal`]. This crate allocates those buffers and calls it;
 //! it is plain Rust and is not proved.
 //!
-//! Make the library with `rt staticlib merino` in the repository's folder, or let the environment variable `MERINO_LIB` name the folder
+//! Make the library with `rt lib` in the folder crates/merino, or let the environment variable `MERINO_LIB` name the folder
 //! that has libmerino.a.
 //!
 //! ```

@@ -3,9 +3,9 @@
 use merino::Refusal;
 use std::fs;
 
-/// The number and the name of each case of `numberOf`, in the order in which they stand.
+/// The number and the name of each case of `number_of`, in the order in which they stand.
 fn defined(text: &str) -> Vec<(u64, String)> {
-    let cases = text.lines().filter_map(|line| line.strip_prefix("numberOf ")).filter_map(|case| case.split_once(" = "));
+    let cases = text.lines().filter_map(|line| line.strip_prefix("number_of ")).filter_map(|case| case.split_once(" = "));
     cases.map(|(name, number)| (number.parse().expect(number), name.to_string())).collect()
 }
 
