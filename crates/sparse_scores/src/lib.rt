@@ -1,5 +1,6 @@
 // The sparse layout of a list's summaries: the score of each summary for a query. Its check stands in crate search_checks.
 #![tactic(auto)]
+
 ghost use Rattle.std.specs.Prelude.{◌≡◌, false, ◌++◌, ◌+◌, ◌≤◌, length, drop, replicate, pos};
 ghost use Rattle.std.proofs.Math.Seq.{slice};
 ghost use Rattle.std.specs.Float.{fin};

@@ -1,0 +1,10 @@
+-- `sparse_scores::add_term` meets its contract. A range that ends past the entries ends with them.
+use Rattle.sparse_scores.proofs.Walks.{term-added}
+use Rattle.sparse_scores.proofs.add_term.Goals as goal
+
+pub returns : goal.returns
+returns c =
+    let a = c.args in
+    term-added a.summary_ids.now a.codes.now a.n a.place a.c a.value a.summary_components.now a.component_offsets.now a.minimums.now a.steps.now
+    c.range_at-range.result.from c.range_at-range.result.to _ _ a.block_scores.now _ c.range_at-range.ensures c.shorter.ensures
+    c.shorter-end.ensures c.add_entries.ensures

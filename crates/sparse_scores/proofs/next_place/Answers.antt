@@ -1,0 +1,6 @@
+-- `sparse_scores::next_place` meets its contract. What stands before the last component stands before this one.
+use Rattle.sparse_scores.proofs.Walks.{placed}
+use Rattle.sparse_scores.proofs.next_place.Goals as goal
+
+pub returns : goal.returns
+returns c = let a = c.args in placed a.last a.c a.at _ a.summary_components.now c.requires c.if-c-last.false c.seek-2.ensures
