@@ -1,5 +1,6 @@
 // One page read against a query: its terms are checked and its score is taken, in two short passes over them. Or two pages at a time.
 #![tactic(auto)]
+
 ghost use Rattle.std.specs.Prelude.{◌≡◌, cond, ◌≤◌, ◌<◌, ◌+◌, ◌%◌, length, get_or, drop, set, ltb};
 ghost use Rattle.std.specs.Float.{nan, binary32};
 ghost use Rattle.std.specs.Float.Ieee.{of_bits, add, mul};

@@ -134,6 +134,7 @@ not-minus s a h p = elim (shape s a) [ inl e ↦ subst (λ z. T (finite z)) (sym
     none r o l e = omega arith
 
     reach : (b o : ℕ) → 0 < b → 1 * 2 ^ 0 * o ≤ b * o
+    reach zero o l = elim l [ ]
     reach (suc b) o l = omega arith
 
     at : HasValue (zero_of true) s (rounded (a * one) one) one → ⊥
