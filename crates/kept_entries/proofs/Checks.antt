@@ -30,7 +30,14 @@ module _ (k n : ℕ) (ys : List Scored) where
 
   -- too many are not well kept
   pub not-held : (leb n k && leb n (length ys)) ≡ false → false ≡ well_kept k (as_lent n ys)
-  not-held h = ill-held k n (map packed_of ys) (map score_of ys) (ap not (sym held-is ∙ h))
+  not-held h = ill-held k n (map packed_of ys) (map score_of ys) (sym held-is ∙ h)
+
+  -- what was found before place i, with the last entry looked at; where there is no entry, that all is well
+  pub record Checked (ok : Bool) (above : Scored) (i : ℕ) : Type 0 where
+    pub started : 0 < i
+    pub last : above ≡ get_or ys (i - 1) no_entry
+    pub none : n ≡ 0 → ok ≡ true
+    pub some : 0 < n → Checking n (map packed_of ys) (map score_of ys) ok i
 
   module _ (h : (leb n k && leb n (length ys)) ≡ true) where
     within : n ≤ length ys
@@ -41,13 +48,6 @@ module _ (k n : ℕ) (ys : List Scored) where
 
     in-scores : n ≤ length (map score_of ys)
     in-scores = omega (arith, within, length-map ys score_of)
-
-    -- what was found before place i, with the last entry looked at; where there is no entry, that all is well
-    pub record Checked (ok : Bool) (above : Scored) (i : ℕ) : Type 0 where
-      pub started : 0 < i
-      pub last : above ≡ get_or ys (i - 1) no_entry
-      pub none : n ≡ 0 → ok ≡ true
-      pub some : 0 < n → Checking n (map packed_of ys) (map score_of ys) ok i
 
     pub checked-first : (e : Scored) → e ≡ get_or ys 0 no_entry → (b : Bool) → b ≡ (eqb n 0 || eq e.score e.score) → Checked b e 1
     checked-first e p b q = record {
@@ -68,7 +68,7 @@ module _ (k n : ℕ) (ys : List Scored) where
     }
 
     pub checked-end : (T (fits binary32 (get_or ys 0 no_entry).score)) → (ok : Bool) (above : Scored) (i : ℕ) → Checked ok above i → n ≤ i → ok ≡ well_kept k (as_lent n ys)
-    checked-end f ok above i c l = well-kept-is k n (map packed_of ys) (map score_of ys) (ap not (sym held-is ∙ h)) ok (go (dec_le n 0))
+    checked-end f ok above i c l = well-kept-is k n (map packed_of ys) (map score_of ys) (sym held-is ∙ h) ok (go (dec_le n 0))
       where
         go : Dec (n ≤ 0) → ok ≡ sound (entries (as_lent n ys))
         go (yes z) = let q : n ≡ 0 = omega arith in c.none q ∙ ap (λ m. sound (entries (lent m (map packed_of ys) (map score_of ys)))) (sym q)

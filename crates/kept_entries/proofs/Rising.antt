@@ -60,9 +60,6 @@ module _ (at : ℕ) (ys : List Scored) (e : Scored) (room : at < length ys) wher
               (climb-up at (set (map packed_of ys) at e.packed) (set (map score_of ys) at e.score) e (map packed_of es) (map score_of es) i j q r.climbing w (v ∙ entry-is es j) s.1);
         }
 
-    pub rise-less : (ltb 0 i && better e w) ≡ true → j < i
-    rise-less t = let s = both (ltb 0 i) (better e w) t in omega (arith, ltb-true 0 i s.0)
-
     pub rise-end : (ltb 0 i && better e w) ≡ false → as_lent (at + 1) es ≡ inserted e (as_lent at ys)
     rise-end t =
         (elim (decide (ltb 0 i)) [
@@ -75,7 +72,3 @@ module _ (at : ℕ) (ys : List Scored) (e : Scored) (room : at < length ys) wher
 
         xs : List Float
         xs = set (map score_of ys) at e.score
-
-  -- the places that a turn reads and writes are there
-  pub rise-in : (es : List Scored) (i : ℕ) → Rising at ys e es i → i < length es
-  rise-in es i r = omega (arith, r.within, r.as_many)

@@ -27,21 +27,21 @@ module _ (k n room : ℕ) (sound : Bool) (e : Scored) where
   keeps-nothing z = rw (eq-eqb k 0 z)
 
   module _ (some : k ≡ 0 → ⊥) where
-    tested : (b : Bool) → not (sound && eq e.score e.score) ≡ b → not (sound && is_number e) ≡ b
-    tested b h = ap (λ x. not (sound && x)) (sym (eq_self e.score)) ∙ h
+    tested : (b : Bool) → (sound && eq e.score e.score) ≡ b → (sound && is_number e) ≡ b
+    tested b h = ap (λ x. sound && x) (sym (eq_self e.score)) ∙ h
 
-    pub wrong-list : not (sound && eq e.score e.score) ≡ true → Refused WrongKeptList ≡ verdict_by k n room sound e
+    pub wrong-list : (sound && eq e.score e.score) ≡ false → Refused WrongKeptList ≡ verdict_by k n room sound e
     unfolding verdict_by
-    wrong-list h = rw (ne_eqb k 0 some, tested true h)
+    wrong-list h = rw (ne_eqb k 0 some, tested false h)
 
-    module _ (h : not (sound && eq e.score e.score) ≡ false) (m : ℕ) (a : m ≡ min (suc n) k) where
+    module _ (h : (sound && eq e.score e.score) ≡ true) (m : ℕ) (a : m ≡ min (suc n) k) where
       pub too_short : room < m → Refused BufferTooShort ≡ verdict_by k n room sound e
       unfolding verdict_by
-      too_short g = rw (ne_eqb k 0 some, tested false h, lt-ltb room (min (suc n) k) (rw a at g))
+      too_short g = rw (ne_eqb k 0 some, tested true h, lt-ltb room (min (suc n) k) (rw a at g))
 
       pub admitted : m ≤ room → Accepted ≡ verdict_by k n room sound e
       unfolding verdict_by
-      admitted g = rw (ne_eqb k 0 some, tested false h, le-ltb room (min (suc n) k) (rw a at g))
+      admitted g = rw (ne_eqb k 0 some, tested true h, le-ltb room (min (suc n) k) (rw a at g))
 
 -- ---- of the entries
 module _ (k n : ℕ) (e : Scored) (ys : List Scored) where

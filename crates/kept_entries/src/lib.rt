@@ -1,5 +1,6 @@
 // The kept list as a lent slice of scored entries.
 #![tactic(auto)]
+
 ghost use Rattle.std.specs.Prelude.{◌≡◌, ◌&&◌, ◌||◌, not, ◌<◌, ◌-◌, ◌+◌, min, ltb, leb, eqb, length as len, get_or};
 ghost use Rattle.std.specs.Float.Ieee.{eq};
 ghost use Rattle.kept_list.specs.Entry.{better};
