@@ -1,6 +1,7 @@
 // What a turn reads of lent memory and leaves there: its block, the worst kept score, and a scored posting kept. Nothing is assumed of the
 // slices.
 #![tactic(auto)]
+
 ghost use Rattle.std.specs.Prelude.{◌≡◌, ◌+◌, get_or, set};
 ghost use Rattle.std.specs.Float.{nan};
 ghost use Rattle.kept_list.specs.Entry.{scored};
