@@ -2,6 +2,7 @@
 // A store has frames from its start on: how many keys a block keeps, and then these keys. A block that finds no place is not stored, nor
 // is any after it.
 #![tactic(auto)]
+
 ghost use Rattle.std.specs.Prelude.{◌≡◌, ◌+◌, ◌-◌, ◌≤◌, length, drop};
 ghost use Rattle.std.proofs.lemmas.List.Edits.{sets};
 ghost use Rattle.build_kept_keys.specs.Frames.{frame, place_after, in_front};
