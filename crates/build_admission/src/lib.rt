@@ -1,6 +1,7 @@
 // Whether a posting list can be built from what is given: the refusals that look at the input alone, before any buffer. Nothing is
 // assumed of the slices.
 #![tactic(auto)]
+
 ghost use Rattle.std.specs.Prelude.{◌≡◌, ◌&&◌, ◌||◌, ◌++◌, ◌-◌, ltb, eqb};
 ghost use Rattle.refusal.specs.First.{first_of};
 ghost use Rattle.blocking.specs.Limits.{list_limit, dimension_limit};
