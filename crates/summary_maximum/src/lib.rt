@@ -1,5 +1,6 @@
 // The block maximum: each component of a block's documents once, with its maximum there.
 #![tactic(auto)]
+
 ghost use Rattle.std.specs.Prelude.{◌≡◌, cond, ◌&&◌, length, get_or, set, ltb, eqb};
 ghost use mathlib.Core.List.{foldl};
 ghost use Rattle.std.specs.Float.{nan};
