@@ -1,5 +1,6 @@
 // A block's maximum, and the part of it that the block's summary keeps.
 #![tactic(auto)]
+
 ghost use Rattle.std.specs.Prelude.{◌≡◌, ◌≤◌, length};
 ghost use mathlib.Core.List.{map, zip_with};
 ghost use Rattle.documents.specs.Documents.{documents, sum};
