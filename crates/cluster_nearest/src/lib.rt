@@ -2,6 +2,7 @@
 // greatest score. Scores come through the centroids' index; those of the largest terms are taken in crate cluster_slots. Nothing is
 // assumed of the slices.
 #![tactic(auto)]
+
 ghost use Rattle.std.specs.Prelude.{◌≡◌, min, length, take};
 ghost use mathlib.Core.List.{map, foldl, zip_with};
 ghost use Rattle.std.specs.Float.Ieee.{lt};
