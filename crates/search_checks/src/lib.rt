@@ -1,5 +1,6 @@
 // Whether a list may be searched: the check of refusal 9. Nothing is assumed of the slices.
 #![tactic(auto)]
+
 ghost use Rattle.std.specs.Prelude.{◌≡◌, ◌≤◌, ltb, length as len};
 ghost use Rattle.sequences.specs.Lists.{every, never_falls, strictly_rise};
 ghost use Rattle.quantizing.specs.Quantizing.{minimum_allowed, step_allowed};

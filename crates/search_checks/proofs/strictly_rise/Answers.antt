@@ -1,0 +1,14 @@
+-- `search_checks::strictly_rise` meets its contract. The test of what is left, with what was found so far, is the test of all.
+use native.Mathlib.Omega.{arith}
+use mathlib.Core.Path.{refl, ◌∙◌}
+use Rattle.search_checks.proofs.Loops.{rise-step, rise-end}
+use Rattle.search_checks.proofs.strictly_rise.Goals as goal
+
+pub loop-i-init : goal.loop-i-init
+loop-i-init c = (omega arith, refl)
+
+pub loop-i-preserved : goal.loop-i-preserved
+loop-i-preserved c = let l = c.loop-i in (omega arith, rise-step l.ok _ l.i l.invariant.0 (omega arith) ∙ l.invariant.1)
+
+pub returns : goal.returns
+returns c = let l = c.loop-i in rise-end l.ok _ l.i l.invariant.0 _ c.loop-i-test.false l.invariant.1
