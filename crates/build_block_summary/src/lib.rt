@@ -1,5 +1,6 @@
 // The summary of one block of a list: the step that both passes over the blocks make, and the work space of it cleared.
 #![tactic(auto)]
+
 ghost use Rattle.std.specs.Prelude.{◌≡◌, length};
 ghost use Rattle.documents.specs.Documents.{documents};
 ghost use Rattle.summary_maximum.specs.Maximum.{block_terms, below};
