@@ -1,6 +1,7 @@
 // What building one posting list means: its result, its refusals, the room that it needs, and what it leaves in the lent buffers.
 // Definitions, promises and the answer's type alone; the code stands over them.
 #![tactic(auto)]
+
 use refusal::Refusal;
 
 // How many numbers of the result stand at the front of the output buffers.
