@@ -8,7 +8,7 @@ use lib.ListN.{length}
 use lib.Dec.{ltb}
 use lib.Ieee.{Float}
 use borrow.Author.Tests.{le-leb, ltb-false}
-use Rattle.sequences.specs.Laws.Lists.{both, neither}
+use Rattle.sequences.specs.Laws.Lists.{neither}
 use Rattle.packing.specs.declared.UnpackedRange.{UnpackedRange}
 use Rattle.packing.specs.Packing.{start_of, length_of, unpacked}
 use Rattle.search_page.specs.declared.Pair.{Pair}

@@ -1,6 +1,7 @@
 // One posting after another: a range that was not visited is read against the query by its table and sieve, and a scored one is kept if
 // it is among the k best. Nothing is assumed of the slices, nor that the table and the sieve are those of the query.
 #![tactic(auto)]
+
 mod ahead;
 mod pairs;
 
@@ -27,7 +28,7 @@ pub enum RangeReading {
 }
 
 // The postings evaluated and the blocks skipped so far.
-#[derive(Drop)]
+#[derive(Clone, Copy)]
 pub struct Counts {
     pub evaluated: u64,
     pub skipped: u64,

@@ -1,0 +1,49 @@
+-- `search_postings::probe_postings`: probing what is left is probing all.
+use mathlib.Core.Path.{refl, ap, ◌∙◌}
+use Prim.Native.Nat.{◌-◌}
+use Rattle.sequences.specs.Lists.{from}
+use Rattle.kept_list.specs.Lent.{lent}
+use Rattle.search_postings.specs.Ranges.{through_table}
+use Rattle.search_postings.specs.Postings.{lends, held_probe}
+use Rattle.search_postings.proofs.Probes.{rest-on, rest-stop, leads-on, probe-end}
+use borrow.Author.Rules.{rules}
+use native.Mathlib.Omega.{arith}
+use Rattle.search_postings.proofs.probe_postings.Goals as goal
+
+pub loop-i-init : goal.loop-i-init
+loop-i-init c = (refl, refl, refl, refl)
+
+pub loop-i-smaller : goal.loop-i-smaller
+loop-i-smaller c =
+    let stop = c.shorter-stop.result in
+    let z = leads-on stop c.loop-i.i c.step_on-s.result _ _ c.in-On.is c.step_on-s.ensures.further in omega (arith, z, c.loop-i-test.true)
+
+pub loop-i-preserved : goal.loop-i-preserved
+loop-i-preserved c = (
+  search rules,
+  search rules,
+  search rules,
+  let a = c.args in
+      rest-on a.k (through_table a.table.now a.sieve.now a.query_components.now a.query_values.now a.components.now a.values.now) a.postings.now
+      c.shorter-stop.result c.step_on-s.result _ _ c.step_on-s.ensures.turned _ _ c.in-On.is ∙ c.loop-i.invariant.3,
+)
+
+pub returns-in-Stopped : goal.returns-in-Stopped
+returns-in-Stopped c =
+    let a = c.args in
+    rest-stop a.k (through_table a.table.now a.sieve.now a.query_components.now a.query_values.now a.components.now a.values.now) a.postings.now
+    c.shorter-stop.result c.step_on-s.result _ _ c.step_on-s.ensures.turned _ _ c.in-Stopped.is ∙ c.loop-i.invariant.3
+    ∙ ap (λ e. held_probe a.k (through_table a.table.now a.sieve.now a.query_components.now a.query_values.now a.components.now a.values.now)
+    a.postings.now (from a.first (e - a.first)) a.counts (lends (lent a.length.now a.packed.now a.scores.now) a.visits.now))
+    c.shorter-stop.ensures
+
+pub returns : goal.returns
+returns c =
+    let l = c.loop-i in
+    let a = c.args in
+    probe-end a.k (through_table a.table.now a.sieve.now a.query_components.now a.query_values.now a.components.now a.values.now) a.postings.now
+    l.i c.shorter-stop.result l.c
+    (lends (lent l.length l.packed l.scores) l.visits) c.loop-i-test.false ∙ l.invariant.3 ∙ ap
+    (λ e. held_probe a.k (through_table a.table.now a.sieve.now a.query_components.now a.query_values.now a.components.now a.values.now)
+    a.postings.now (from a.first (e - a.first)) a.counts (lends (lent a.length.now a.packed.now a.scores.now)
+    a.visits.now)) c.shorter-stop.ensures
