@@ -1,5 +1,6 @@
 // The buffers that a build is lent, set to zero: its output, its scratch, and the part of the scratch that writing a layout works in.
 #![tactic(auto)]
+
 ghost use Rattle.std.specs.Prelude.{◌≡◌};
 ghost use Rattle.build_meaning.specs.Building.{outputs, scratches, zeros, float_zeros, cleared_output, cleared_scratch};
 
