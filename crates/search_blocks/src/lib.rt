@@ -1,6 +1,7 @@
 // The blocks of a posting list have their turns: each is skipped, or its postings are evaluated. The scores of the blocks are given; where
 // they come from is not known here. Nothing is assumed of the slices, nor that the table and the sieve are those of the query.
 #![tactic(auto)]
+
 ghost use Rattle.std.specs.Prelude.{◌≡◌};
 ghost use Rattle.kept_list.specs.Lent.{lent};
 ghost use Rattle.search_postings.specs.Ranges.{through_table};
