@@ -1,6 +1,7 @@
 // How long the scratch buffers of a build must be. The formula stands in build_meaning/specs/Needs.antt; here it is computed for a caller
 // that is to lend them, and for the build that is lent them.
 #![tactic(auto)]
+
 ghost use Rattle.std.specs.Prelude.{◌≡◌, map, ◌+◌, length};
 ghost use Rattle.sequences.specs.Lists.{joined};
 ghost use Rattle.documents.specs.Documents.{documents, terms};
