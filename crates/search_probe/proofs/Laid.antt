@@ -1,5 +1,5 @@
 -- With room for k, the turns over lent memory are the sweep over its entries, laid down; what lies past them is unchanged.
-use Prim.Native.Nat.{ℕ, ◌+◌, ◌-◌, ◌≤◌}
+use Prim.Native.Nat.{ℕ, ◌+◌, ◌≤◌}
 use native.Mathlib.Omega.{arith}
 use mathlib.Core.Path.{◌≡◌, refl, sym, ap, ◌∙◌}
 use mathlib.Core.Bool.{Bool, true, false, not, ◌&&◌, cond}
@@ -11,7 +11,7 @@ use Rattle.kept_list.specs.declared.Scored.{Scored}
 use Rattle.kept_list.specs.Keep.{keep}
 use Rattle.kept_list.specs.Laws.Pushing.{length-keep}
 use Rattle.kept_list.specs.Entry.{scored, better}
-use Rattle.kept_list.specs.Lent.{Lent, lent, score_of, entries, written, settled}
+use Rattle.kept_list.specs.Lent.{Lent, score_of, entries, written, settled}
 use Rattle.kept_list.specs.Laid.{RoomFor}
 use Rattle.kept_list.specs.Laws.Laid.{entries-written, written_over, room-written, settled_is, written_same, length-beside}
 use Rattle.search_postings.specs.declared.Counts.{Counts}
@@ -20,7 +20,7 @@ use Rattle.search_postings.specs.declared.RangeReading.TheVariants.{ReachesPast,
 use Rattle.search_postings.specs.declared.Turn.TheVariants.{On, Stopped}
 use Rattle.search_postings.specs.Postings.{Lends, lends, Turned, turned, counts, next, held_outcome, held_evaluate, held_probe}
 use Rattle.search_blocks.specs.Turns.{held_skips, held_turn, block_at, held_sweep}
-use Rattle.search_probe.specs.Probing.{Place, Given, State, state, passed, of_reading, packed_at, start_at, Reached, goes_on, stops_at, and_then, evaluate, probe, skips, positions, pass_over, turn, sweep}
+use Rattle.search_probe.specs.Probing.{Place, Given, State, state, passed, of_reading, packed_at, start_at, Reached, goes_on, stops_at, and_then, evaluate, probe, skips, positions, pass_over, sweep}
 use Rattle.search_probe.specs.Probed.{Terms, left, rest_of, laid, answer_of}
 use Rattle.search_probe.proofs.Counted.{unvisited-few, HasBytes, Fits, counts-on, found_at, found-counted, found-fits, FitsOn, probe-fits}
 use Rattle.search_probe.specs.Laws.Worst.{worst-laid}

@@ -1,6 +1,7 @@
 // Probing: what must hold before the first turn, the query laid out once, the blocks' turns, and the answer to where they came. The scores
 // of the blocks are given; where they come from is not known here.
 #![tactic(auto)]
+
 ghost use Rattle.std.specs.Prelude.{◌≡◌};
 ghost use Rattle.refusal.specs.First.{first_of};
 ghost use Rattle.kept_list.specs.Lent.{lent};
