@@ -1,0 +1,12 @@
+-- `cluster_exact::clear` meets its contract: each slice by the call that clears it.
+use borrow.Author.Rules.{rules}
+use Rattle.cluster_exact.proofs.clear.Goals as goal
+
+pub returns : goal.returns
+returns c = record {
+  counts = search rules;
+  starts = search rules;
+  slots = search rules;
+  weights = search rules;
+  sums = search rules;
+}
