@@ -1,6 +1,7 @@
 // The first pass over a list's blocks: each is summarized, its entries counted by component, its minimum and step stored, and the keys it
 // keeps stored for the second pass, as far as they find a place.
 #![tactic(auto)]
+
 ghost use Rattle.std.specs.Prelude.{◌≡◌, length, ◌-◌};
 ghost use Rattle.documents.specs.Documents.{documents};
 ghost use Rattle.summary_maximum.specs.Maximum.{block_terms, below};
