@@ -1,5 +1,6 @@
 // What is done before a list's blocks are made: the input and the scratch are judged, and all scratch is set to zero.
 #![tactic(auto)]
+
 ghost use Rattle.std.specs.Prelude.{◌≡◌, not, [], ◌∷◌, ◌++◌};
 ghost use Rattle.refusal.specs.declared.Refusal.TheVariants.{BufferTooShort};
 ghost use Rattle.refusal.specs.First.{◌gives◌, first_of};

@@ -1,0 +1,29 @@
+-- `judge` gives the first refusal: the input's, and then that of scratch too short.
+use borrow.Author.Tests.{not-true, not-false}
+use Rattle.documents.specs.Documents.{documents}
+use Rattle.build_admission.specs.Admission.{input_tests}
+use Rattle.build_meaning.specs.Needs.{sizes_for, scratch_needs}
+use Rattle.build_ready.proofs.Laws.{refused-early, refused-late, accepted-late}
+use Rattle.build_ready.proofs.judge.Goals as goal
+
+pub returns-in-Refused : goal.returns-in-Refused
+returns-in-Refused c =
+    let a = c.args in
+    refused-early (input_tests a.dimension a.blocking (documents a.offsets.now a.components.now a.values.now) a.ids.now a.centroids.now) _
+    c.admitted-verdict.result _ c.admitted-verdict.ensures c.in-Refused.is
+
+pub returns-then-not-suffices : goal.returns-then-not-suffices
+returns-then-not-suffices c =
+    let a = c.args in
+    refused-late (input_tests a.dimension a.blocking (documents a.offsets.now a.components.now a.values.now) a.ids.now a.centroids.now)
+    c.admitted-verdict.result (scratch_needs (sizes_for a.dimension a.blocking (documents a.offsets.now a.components.now a.values.now) a.ids.now
+    a.centroids.now)) c.scratch_needs-needed.result a.lent c.suffices.result c.admitted-verdict.ensures
+    c.in_default.is c.scratch_needs-needed.ensures c.suffices.ensures (not-true _ c.if-not-suffices.true-raw)
+
+pub returns : goal.returns
+returns c =
+    let a = c.args in
+    accepted-late (input_tests a.dimension a.blocking (documents a.offsets.now a.components.now a.values.now) a.ids.now a.centroids.now)
+    c.admitted-verdict.result (scratch_needs (sizes_for a.dimension a.blocking (documents a.offsets.now a.components.now a.values.now) a.ids.now
+    a.centroids.now)) c.scratch_needs-needed.result a.lent c.suffices.result c.admitted-verdict.ensures
+    c.in_default.is c.scratch_needs-needed.ensures c.suffices.ensures (not-false _ c.if-not-suffices.false-raw)
