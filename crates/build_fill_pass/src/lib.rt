@@ -1,6 +1,7 @@
 // The second pass over a list's blocks: each one's kept keys are taken from the store that the first pass left, or it is summarized again
 // where they found no place there, and its entries are placed by their components' cursors.
 #![tactic(auto)]
+
 ghost use Rattle.std.specs.Prelude.{◌≡◌, ◌%◌, min, length, drop};
 ghost use Rattle.documents.specs.Documents.{documents};
 ghost use Rattle.summary_maximum.specs.Maximum.{block_terms, below};
