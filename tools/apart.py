@@ -1,5 +1,5 @@
 """Copies of crates in a temporary folder apart from the checkout, in which rt works without touching what stands here."""
-import contextlib, os, re, shutil, tempfile
+import contextlib, functools, importlib.machinery, importlib.util, os, re, shutil, subprocess, sys, tempfile
 
 
 def listed():
@@ -45,3 +45,22 @@ def copy_of(names, edits):
 
 def left_out(folder, names):
     return [it for it in names if it in ("out", "must-fail", "audit")] if re.fullmatch(r"crates/[^/]+", folder) else []
+
+
+@functools.lru_cache(maxsize=None)
+def kit():
+    """The kit's folder, and rt's own account of crates and of the compiler's words."""
+    folder = os.path.dirname(os.path.dirname(os.path.realpath(shutil.which("rt"))))
+    loader = importlib.machinery.SourceFileLoader("rtlib", f"{folder}/bin/rtlib.py")
+    made = importlib.util.module_from_spec(importlib.util.spec_from_loader("rtlib", loader))
+    sys.modules["rtlib"] = made
+    loader.exec_module(made)
+    return folder, made
+
+
+def compiler(room, name, verb, *flags, **how):
+    """Calls the kit's compiler for a crate of a copy, over the libraries that rt has built there, as rt itself calls it."""
+    _, rtlib = kit()
+    crate = next(it for it in rtlib.crates_below(room) if it.name == name)
+    words = [*rtlib.guarded(), rtlib.RATTLE, verb, *crate.words(["--jobs", "1"], keeps=False), *flags]
+    return subprocess.run(words, cwd=crate.folder, stdin=subprocess.DEVNULL, **how)
