@@ -1,5 +1,6 @@
 // How long the result of a build is: the first pass over a list's blocks counts their entries, and the output buffers' lengths are judged.
 #![tactic(auto)]
+
 ghost use Rattle.std.specs.Prelude.{◌≡◌, ◌-◌};
 ghost use Rattle.documents.specs.Documents.{documents};
 ghost use Rattle.build_count_pass.specs.Counting.{counting};
