@@ -1,5 +1,6 @@
 // Packing, blocking, quantizing and pushing, as recorded. Which word of a case is which stands over each function.
 #![tactic(auto)]
+
 ghost use Rattle.std.specs.Prelude.{◌≡◌};
 ghost use Rattle.replay_leaves.specs.Case.{is_packed, is_written, is_summary, packs_agree, blocks_agree, quantizes_agree, pushes_agree};
 
