@@ -1,6 +1,7 @@
 // The second pass over a list's blocks: once their entries are counted and the room is judged, the layout, the packed postings and the
 // block offsets are written, each in front of its buffer, or all output is cleared.
 #![tactic(auto)]
+
 ghost use Rattle.std.specs.Prelude.{◌≡◌, [], map};
 ghost use Rattle.std.proofs.lemmas.List.Edits.{sets};
 ghost use Rattle.documents.specs.Documents.{documents};
