@@ -1,6 +1,7 @@
 // The centroid that takes a document by its largest terms, found by the entries of the centroids' index that these terms meet: their slots
 // alone are added to, looked at and set back, however many centroids there are. Nothing is assumed of the slices.
 #![tactic(auto)]
+
 ghost use Rattle.std.specs.Prelude.{◌≡◌, ◌≤◌, leb, length};
 ghost use mathlib.Core.List.{map, foldl};
 ghost use Rattle.documents.specs.Documents.{documents};

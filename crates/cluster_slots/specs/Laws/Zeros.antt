@@ -1,5 +1,5 @@
 -- From scores that are all +0, the choice is the last greatest of those that compete, and leaves all +0 again.
-use Prim.Native.Nat.{ℕ, zero, suc, ◌+◌, ◌-◌, ◌≤◌, ◌<◌, min}
+use Prim.Native.Nat.{ℕ, zero, suc, ◌-◌, ◌≤◌, ◌<◌, min}
 use native.Mathlib.Omega.{arith}
 use Rattle.std.specs.Prelude.{◌≡◌, Bool, false, List, ◌∷◌, ◌++◌, length, take, replicate, Float}
 use Rattle.std.proofs.Math.Path.{refl, sym, ap}
