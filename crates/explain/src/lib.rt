@@ -2,6 +2,7 @@
 // The turns before a moment are taken again, from the kept list and the visit bytes that the search began with; so what is held at that
 // moment is the search's own.
 #![tactic(auto)]
+
 ghost use Rattle.std.specs.Prelude.{◌≡◌, take};
 ghost use Rattle.sequences.specs.Lists.{among};
 ghost use Rattle.kept_list.specs.Lent.{lent};
@@ -16,7 +17,7 @@ use search_probe::Answer;
 
 // A block's turn: whether k were kept, the block's score, the bar that it had to reach, which is the factor times the worst kept score,
 // and whether it was skipped.
-#[derive(Drop)]
+#[derive(Clone, Copy)]
 pub struct Turn {
     pub block: BlockNumber,
     pub full: bool,
@@ -26,7 +27,7 @@ pub struct Turn {
 }
 
 // A search that is refused or stopped before a turn does not take it.
-#[derive(Drop)]
+#[derive(Clone, Copy)]
 pub enum TurnSeen {
     NotTaken,
     Taken(Turn),
