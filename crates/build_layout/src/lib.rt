@@ -1,6 +1,7 @@
 // The result of a build, written from the blocks of its list: their entries are counted and the room is judged, and then the layout, the
 // packed postings and the block offsets are written, or all output is cleared.
 #![tactic(auto)]
+
 ghost use Rattle.std.specs.Prelude.{◌≡◌};
 ghost use Rattle.documents.specs.Documents.{documents};
 ghost use Rattle.build_count_pass.specs.Counting.{counting};
