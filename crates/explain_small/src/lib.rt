@@ -1,6 +1,7 @@
 // A short search looked into, with buffers of its own: what a small program calls that has none to lend. At most 16 pages are kept, of
 // at most 63 terms in all; a longer search is refused with 4, and then nothing of it is seen.
 #![tactic(auto)]
+
 ghost use Rattle.std.specs.Prelude.{◌≡◌};
 ghost use Rattle.search_probe.specs.Probed.{terms};
 ghost use Rattle.explain_small.specs.Short.{turn_short, fate_short};
