@@ -1,5 +1,6 @@
 // Searching one posting list: admitted, scored, probed. The blocks have their turns in number order, or those with the greater score first.
 #![tactic(auto)]
+
 mod order;
 
 ghost use Rattle.std.specs.Prelude.{◌≡◌, true, not, ◌&&◌, [], ◌∷◌, ◌≤◌, length as len, leb, ltb};
