@@ -1,6 +1,7 @@
 // The end of a build: once a list's blocks were made, its result is written and the scratch they stood in is cleared; once they were
 // refused, all output is cleared.
 #![tactic(auto)]
+
 ghost use Rattle.std.specs.Prelude.{◌≡◌};
 ghost use Rattle.documents.specs.Documents.{documents};
 ghost use Rattle.build_meaning.specs.Building.{outputs};
