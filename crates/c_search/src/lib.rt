@@ -1,6 +1,7 @@
 // A search's answer as numbers, as C has them: 0 for an accepted call, else the refusal's number, and beside it the numbers that a search
 // lends out.
 #![tactic(auto)]
+
 ghost use Rattle.std.specs.Prelude.{◌≡◌};
 ghost use Rattle.kept_list.specs.Lent.{lent};
 ghost use Rattle.sparse_scores.specs.Layout.{arrays};
