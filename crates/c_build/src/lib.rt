@@ -1,5 +1,6 @@
 // A build's choices and its answer as numbers, as C has them: a number chooses a strategy, and an answer becomes a number with five sizes.
 #![tactic(auto)]
+
 ghost use Rattle.std.specs.Prelude.{◌≡◌};
 ghost use Rattle.build_meaning.specs.Building.{numbers, in_numbers};
 ghost use Rattle.c_build.specs.Chosen.{algorithm_of, blocking_of, summarization_of};
