@@ -2,7 +2,6 @@
 use Rattle.std.specs.Prelude.{ℕ, ◌≡◌, Bool, cond, List, eqb, Float}
 use Rattle.sequences.specs.Lists.{from}
 use Rattle.refusal.specs.declared.Refusal.{Refusal}
-use Rattle.refusal.specs.declared.Verdict.TheVariants as verdict
 use Rattle.refusal.specs.Refusals.{number_of}
 use Rattle.sparse_scores.specs.Scores.{put_in}
 use Rattle.search_probe.specs.declared.Answer.{Answer}

@@ -4,7 +4,6 @@ use Rattle.std.proofs.Common.{arith, sym, ap, ◌∙◌, subst, inl, inr}
 use Rattle.sequences.specs.Lists.{EachOf}
 use Rattle.refusal.specs.declared.Refusal.{Refusal}
 use Rattle.refusal.specs.declared.Refusal.TheVariants.{BufferTooShort, WrongDocuments, MalformedList, WrongQuery, NothingToKeep, WrongKeptList, PastTheTerms, WrongTerms}
-use Rattle.refusal.specs.declared.Verdict.TheVariants as verdict
 use Rattle.refusal.specs.First.{Test, FirstFault, ◌gives◌}
 use Rattle.refusal.specs.Refusals.{number_of}
 use Rattle.search_probe.specs.declared.Answer.{Answer}
