@@ -23,7 +23,7 @@ use Rattle.search_probe.specs.Probing.{sweep}
 use Rattle.search_probe.specs.Probed.{Lends, given, laid, opened, listed, probed}
 use Rattle.search_probe.specs.Probed as probing
 use Rattle.search.specs.Order.{no_later, by_score}
-use Rattle.search.specs.Searched.{Question, block_count, scores_for, given_for, swept, room, tests, Searched, leaves, if_accepted, score_places, searched, SearchedInOrder, leaves_in_order, if_accepted_in_order}
+use Rattle.search.specs.Searched.{Question, block_count, scores_for, given_for, swept, tests, Searched, leaves, if_accepted, score_places, searched, SearchedInOrder, leaves_in_order, if_accepted_in_order}
 use Rattle.search.specs.Searched.{order_places, searched_in_order}
 use Rattle.search.specs.Trace.{turns}
 use Rattle.search.proofs.Keyed.{order-length}
