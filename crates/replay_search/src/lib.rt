@@ -2,6 +2,7 @@
 // 6: evaluated; 7: skipped; from 8 on where the slices start: the twelve that are read, the kept packed numbers, scores and visits before,
 // and afterwards these three, the dots and the order.
 #![tactic(auto)]
+
 ghost use Rattle.std.specs.Prelude.{◌≡◌, get_or, replicate};
 ghost use Rattle.kept_list.specs.Lent.{lent};
 ghost use Rattle.sparse_scores.specs.Layout.{arrays};
