@@ -1,6 +1,7 @@
 // The documents taken in the approximate mode, pass by pass: the last greatest of the centroids that compete takes a document. Nothing
 // is assumed of the slices.
 #![tactic(auto)]
+
 ghost use Rattle.std.specs.Prelude.{◌≡◌, false, pos, length, replicate};
 ghost use Rattle.std.specs.Float.{fin};
 ghost use Rattle.documents.specs.Documents.{documents};
