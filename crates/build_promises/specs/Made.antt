@@ -8,7 +8,7 @@ use Rattle.sparse_scores.specs.Layout.{arrays}
 use Rattle.sparse_scores.specs.WellFormed.{well_formed}
 use Rattle.sparse_layout.specs.Near.{StoredNear}
 use Rattle.build_meaning.specs.declared.BuiltSizes.{BuiltSizes}
-use Rattle.build_meaning.specs.Built.{Input, block_documents, Built, summaries, built}
+use Rattle.build_meaning.specs.Built.{Input, block_documents, Built, built}
 use Rattle.build_meaning.specs.Building.{Outputs, outputs, Lent, tests, verdict_of, cleared_output, cleared_scratch, sizes_built}
 use Rattle.build_promises.specs.Greatest.{Greatest}
 use Rattle.build_promises.specs.Shared.{SharedBy}
