@@ -1,5 +1,6 @@
 // The passes over the documents in the chosen mode.
 #![tactic(auto)]
+
 ghost use Rattle.std.specs.Prelude.{◌≡◌, ◌++◌, length, take, drop};
 ghost use Rattle.sort.specs.Sorted.{sorted};
 ghost use Rattle.clearing.specs.Zeros.{zeros, float_zeros};
