@@ -165,18 +165,19 @@ fn say_reason(rt: &impl Print, fate: Fate) -> io::Result<()> {
 
 // Whether a page is missed that is not kept: it is better than the worst that is kept, and its block scores 0, so that the block's
 // summary keeps no term of the question, and is skipped.
-fn is_missed(score: f32, fate: Fate, worst: f32) -> bool {
+fn is_missed(score: f32, fate: &Fate, worst: f32) -> bool {
     if let Fate::Skipped { score: dot, bar: _ } = fate {
-        return (dot == 0.0) & (score > worst);
+        return (*dot == 0.0) & (score > worst);
     }
     false
 }
 
 // A page that is not kept, and why; whether it is missed.
 fn say_left(rt: &impl Print, page: u64, score: f32, fate: Fate, worst: f32) -> io::Result<bool> {
+    let missed = is_missed(score, &fate, worst);
     say_page(rt, page, score)?;
     say_reason(rt, fate)?;
-    Ok(is_missed(score, fate, worst))
+    Ok(missed)
 }
 
 // Why a page is missed that is better than one that is kept: of the question's terms those that it has are not in its block's summary.
