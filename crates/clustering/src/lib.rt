@@ -1,5 +1,6 @@
 // Clusters of a posting list's documents around given centroids: document 01, "Clusters".
 #![tactic(auto)]
+
 ghost use Rattle.std.specs.Prelude.{◌≡◌, ◌≤◌, length, take};
 ghost use Rattle.documents.specs.Documents.{documents};
 ghost use Rattle.clearing.specs.Zeros.{zeros};
