@@ -1,5 +1,6 @@
 // The blocks of a posting list that is to be built, made in lent scratch: by a fixed size, or by clusters around given centroids.
 #![tactic(auto)]
+
 ghost use Rattle.std.specs.Prelude.{◌≡◌, ◌≤◌, length};
 ghost use Rattle.refusal.specs.First.{first_of};
 ghost use Rattle.documents.specs.Documents.{documents};
