@@ -1,5 +1,6 @@
 // One posting list, built: admitted, blocked, summarized, laid out. Document 01, "Leaves first".
 #![tactic(auto)]
+
 ghost use Rattle.std.specs.Prelude.{◌≡◌};
 ghost use Rattle.documents.specs.Documents.{documents};
 ghost use Rattle.build_meaning.specs.Built.{input};
