@@ -1,5 +1,6 @@
 // A short list built with scratch of its own: what a small program calls that has no buffers to lend.
 #![tactic(auto)]
+
 ghost use Rattle.std.specs.Prelude.{◌≡◌};
 ghost use Rattle.documents.specs.Documents.{documents};
 ghost use Rattle.build_meaning.specs.Built.{input};
