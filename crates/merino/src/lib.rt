@@ -2,6 +2,7 @@
 // A slice crosses as a pointer and a length, a lent number as a pointer. Each function answers 0 where the call is accepted,
 // and else the number of its refusal.
 #![tactic(auto)]
+
 mod build;
 
 ghost use Rattle.std.specs.Prelude.{◌≡◌};
