@@ -1,4 +1,5 @@
 -- `search_page::read_narrow`: by the table where it has a place for each component, else 14 where the terms don't hold or the sum through the
+-- sieve.
 use mathlib.Core.Path.{sym, ◌∙◌}
 use Rattle.documents.specs.Laws.Documents.{slices-even as holds-even}
 use Rattle.search_page.proofs.Laws.{reads-laid, reads as reads-law, breaks, below-even}
