@@ -1,5 +1,6 @@
 // Why a call is refused. The numbers stand here and nowhere else.
 #![tactic(auto)]
+
 ghost use Rattle.std.specs.Prelude.{◌≡◌};
 ghost use Rattle.refusal.specs.Refusals.{number_of, verdict_number};
 
