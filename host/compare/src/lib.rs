@@ -17,6 +17,7 @@ pub type Case = fn(&mut Random, Slip) -> Option<bool>;
 
 /// The kinds of cases, by name. Those that need the original are there where its source is.
 pub fn kinds() -> Vec<(&'static str, Case)> {
+    #[cfg_attr(not(source), allow(unused_mut))]
     let mut all: Vec<(&'static str, Case)> = vec![("any_push", any::case_any_push), ("any_search", any::case_any_search), ("any_build", any::case_any_build)];
     #[cfg(source)]
     all.extend([
