@@ -13,7 +13,7 @@ fn main() {
     println!("cargo:rerun-if-changed={}", library.display());
     if !library.exists() {
         eprintln!("\nThe proved library is not there: {}", library.display());
-        eprintln!("Make it with `rt lib` in crates/merino, which proves what it needs first (an hour, if nothing is proved yet), or let");
+        eprintln!("Make it with `rt lib` in crates/merino, which proves what it needs first (long, if nothing is proved yet), or let");
         eprintln!("MERINO_LIB name the folder that has libmerino.a.\n");
         std::process::exit(1);
     }
