@@ -32,17 +32,6 @@ fn outside_limits(dimension: u64, ids: u64) -> bool
     blocking::limits::dimension_outside(dimension)
 }
 
-// How many documents so many offsets stand for.
-fn document_count(offsets: usize) -> u64
-    ensures { result ≡ offsets - 1 }
-{
-    if offsets == 0 {
-        0
-    } else {
-        (offsets - 1) as u64
-    }
-}
-
 // How many of the listed centroids are used: fixed blocking takes none.
 pub fn centroids_taken(blocking: BlockingStrategy, centroids: usize) -> usize
     ensures { result ≡ taken_of blocking centroids }
@@ -72,7 +61,7 @@ fn documents_known(
     if !document_checks::offsets_hold(offsets, components, values) {
         return false;
     }
-    let count = document_count(offsets.len());
+    let count = offsets.len().saturating_sub(1) as u64;
     if !document_checks::ids_hold(count, ids) {
         return false;
     }
@@ -102,15 +91,10 @@ fn ranges_fit(offsets: &[u64], ids: &[u64]) -> RangesFit
 {
     let mut starts = true;
     let mut lengths = true;
-    let mut i = 0usize;
-    while i < ids.len() {
-        let range = documents::range_of(offsets, DocumentId(ids[i]));
-        let at = range.start;
-        let start = at.0;
-        let end = range.end;
-        starts = starts & PackedPosting::start_fits(at);
-        lengths = lengths & PackedPosting::length_fits(end - start);
-        i += 1;
+    for id in ids {
+        let range = documents::range_of(offsets, DocumentId(*id));
+        starts &= PackedPosting::start_fits(range.start);
+        lengths &= PackedPosting::length_fits(range.end - range.start.0);
     }
     RangesFit {
         starts: starts,

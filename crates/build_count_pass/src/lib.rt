@@ -36,11 +36,9 @@ fn note(
 {
     sparse_layout::tally(keys, entry_counts);
     let extent = sparse_layout::extent_of_keys(keys);
-    let least = extent.least;
-    let greatest = extent.greatest;
     let b = number.0 as usize;
-    cells::put_f32(minimums, b, least);
-    cells::put_f32(steps, b, quantizing::step_of(least, greatest));
+    cells::put_f32(minimums, b, extent.least);
+    cells::put_f32(steps, b, quantizing::step_of(extent.least, extent.greatest));
 }
 
 // Notes the terms that the keys stand for, and stores the keys at a place; answers the place after them.
@@ -141,9 +139,8 @@ fn count_blocks(
         ≡ stored_from 0 (tops (limit_of dimension (length keys.old) (length places.old) (length maxima.old)) strategy
         (documents offsets.now components.now values.now) order.now blocks.now) store.old }
 {
-    let mut b = 0usize;
     let mut at = 0usize;
-    while b + 1 < blocks.len() {
+    for b in 0..blocks.len().saturating_sub(1) {
         let counted = count_block(
             dimension,
             strategy,
@@ -166,7 +163,6 @@ fn count_blocks(
             return false;
         }
         at = counted.next;
-        b += 1;
     }
     true
 }

@@ -139,9 +139,8 @@ fn fill_blocks(
         (length places.old) (length maxima.old)) strategy (documents offsets.now components.now values.now)
         order.now blocks.now)) }
 {
-    let mut b = 0usize;
     let mut at = 0usize;
-    while b + 1 < blocks.len() {
+    for b in 0..blocks.len().saturating_sub(1) {
         at = fill_next(
             dimension,
             strategy,
@@ -160,7 +159,6 @@ fn fill_blocks(
             at,
             store,
         );
-        b += 1;
     }
 }
 

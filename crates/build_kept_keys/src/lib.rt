@@ -7,25 +7,6 @@ ghost use Rattle.std.specs.Prelude.{◌≡◌, ◌+◌, ◌-◌, ◌≤◌, leng
 ghost use Rattle.std.proofs.lemmas.List.Edits.{sets};
 ghost use Rattle.build_kept_keys.specs.Frames.{frame, place_after, in_front};
 
-// How many places there are from one on.
-fn places_from(at: usize, size: usize) -> usize
-    ensures { result ≡ size - at }
-{
-    if at < size { size - at } else { 0 }
-}
-
-// The keys, from a place of the store on.
-fn write_keys(keys: &[u64], from: usize, store: &mut [u64])
-    requires { from + length keys.now ≤ length store.old }
-    ensures { store.new ≡ sets store.old from keys.now }
-{
-    let mut i = 0usize;
-    while i < keys.len() {
-        store[from + i] = keys[i];
-        i += 1;
-    }
-}
-
 // Stores a block's keys at a place, with their number in front, and answers the place after them. Where they find no place nothing is
 // written, and the answer is the end of the store, where no later block finds one. It takes time in proportion to the keys.
 pub fn keep(at: usize, keys: &[u64], store: &mut [u64]) -> usize
@@ -34,13 +15,14 @@ pub fn keep(at: usize, keys: &[u64], store: &mut [u64]) -> usize
 {
     let size = store.len();
     let n = keys.len();
-    if places_from(at, size) <= n {
+    if size.saturating_sub(at) <= n {
         return size;
     }
     let from = at + 1;
+    let end = from + n;
     store[at] = n as u64;
-    write_keys(keys, from, store);
-    from + n
+    store[from..end].copy_from_slice(keys);
+    end
 }
 
 // How many keys the frame at a place of the store has, which stand from the next place on; 0 where there is none. It takes a look at one
@@ -48,7 +30,7 @@ pub fn keep(at: usize, keys: &[u64], store: &mut [u64]) -> usize
 pub fn frame_length(at: usize, store: &[u64]) -> usize
     ensures { result ≡ in_front (drop at store.now) }
 {
-    let places = places_from(at, store.len());
+    let places = store.len().saturating_sub(at);
     let n = cells::at_u64(store, at, 0);
     if n < places as u64 { n as usize } else { 0 }
 }

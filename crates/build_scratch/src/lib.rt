@@ -12,27 +12,15 @@ use configuration::BlockingStrategy;
 use number_types::DocumentId;
 use scratch::ScratchLengths;
 
-// The sum of two numbers, or the greatest u64 where it is less than that.
-fn sum(a: u64, b: u64) -> u64
-    ensures { result ≡ capped (a + b) }
-{
-    let most = 0xffff_ffff_ffff_ffffu64;
-    if most - a < b { most } else { a + b }
-}
-
 // How many terms the listed documents have, each counted as often as it is listed.
 fn term_total(offsets: &[u64], components: &[u32], values: &[f32], listed: &[u64]) -> u64
     ensures { result ≡ capped (length (joined (map (terms (documents offsets.now components.now values.now)) listed.now))) }
 {
     let count = documents::term_count(components, values);
     let mut total = 0u64;
-    let mut i = 0usize;
-    while i < listed.len() {
-        let at = documents::places(offsets, count, DocumentId(listed[i]));
-        let from = at.from;
-        let to = at.to;
-        total = sum(total, (to - from) as u64);
-        i += 1;
+    for id in listed {
+        let at = documents::places(offsets, count, DocumentId(*id));
+        total = total.saturating_add((at.to - at.from) as u64);
     }
     total
 }
@@ -50,12 +38,12 @@ pub fn needs_of_sizes(
     let most = cells::greater_u64(centroids, dimension);
     ScratchLengths {
         order: ids,
-        blocks: sum(ids, 1),
+        blocks: ids.saturating_add(1),
         sorted: ids,
         known: centroids,
         taken: ids,
         counts: most,
-        starts: sum(dimension, 1),
+        starts: dimension.saturating_add(1),
         slots: centroid_terms,
         weights: centroid_terms,
         sums: most,

@@ -1,35 +1,28 @@
 -- What one turn of a scoring loop does to the walk of what is left.
 use mathlib.Core.Path.{◌≡◌, refl, sym, ap, ◌∙◌}
 use mathlib.Core.Bool.{Bool, true, false, cond}
-use mathlib.Core.List.{List, [], ◌∷◌, ◌++◌, append_assoc, zip_with}
+use mathlib.Core.List.{List, [], ◌∷◌, ◌++◌, zip_with}
+use mathlib.Core.Logic.{◌⊎◌, inl, inr}
 use Prim.Native.Nat.{ℕ, zero, suc, ◌+◌, ◌-◌, ◌≤◌, ◌<◌, min}
 use native.Mathlib.Omega.{arith}
 use native.Mathlib.Nat.{min-eq_left, le_trans}
 use native.Mathlib.Decide.{dec_le}
 use native.Mathlib.Numerals.{add-one}
-use lib.ListN.{length, get_or, take, drop, set, replicate, length-replicate, replicate-append-replicate, drop_of_length-le, get_or-eq_default}
-use lib.Seq.{slice, slice-cons, drop-cons, set_at, take-nil, take_all}
+use lib.ListN.{length, get_or, take, drop, set, replicate, drop_of_length-le, get_or-eq_default}
+use lib.Seq.{slice, slice-cons, drop-cons, take-nil, take_all}
 use lib.Dec.{leb}
 use lib.IntN.{pos}
 use lib.Ieee.{Float, nan, fin, binary32, add, mul}
 use borrow.Author.Tests.{lt-ltb, le-ltb, le-leb, lt-leb, leb-false, eq-eqb, ne_eqb}
 use Rattle.sequences.specs.Lists.{before, between, part}
 use Rattle.sequences.specs.Laws.Lists.{any-default}
-use Rattle.documents.specs.Documents.{term, paired}
+use Rattle.documents.specs.Documents.{paired}
 use Rattle.quantizing.specs.Quantizing.{read_back}
 use Rattle.sparse_scores.specs.Layout.{Layout, arrays, entry, entries, entries_at, place_of}
 use Rattle.sparse_scores.specs.Scores.{summary_count, scores_of, put_in}
 use Rattle.sparse_scores.specs.Walk.{grown, grown_by, Spans}
 use Rattle.sparse_scores.specs.Laws.Walk.{walked}
 use Rattle.sparse_scores.specs.Laws.WalkLaws.{walk-scores}
-
--- ---- clearing
-pub clear_step : {A : Type 0} (z : A) (scores : List A) (i : ℕ) → i < length scores → set (replicate i z ++ drop i scores) i z ≡ replicate (i + 1) z ++ drop (i + 1) scores
-clear_step z scores i h =
-    ap (λ l. set (replicate i z ++ l) i z) (drop-cons scores i z h)
-    ∙ set_at (replicate i z) (get_or scores i z) (drop (suc i) scores) z i (length-replicate i z)
-    ∙ sym (append_assoc (replicate i z) (z ∷ []) (drop (suc i) scores))
-    ∙ rw (replicate-append-replicate i 1 z, add-one i)
 
 -- ---- seeking
 module _ (cs : List ℕ) (c : ℕ) where
@@ -57,6 +50,17 @@ place-from last c (x ∷ cs) h = go (leb last x) refl (place-from last c cs h)
 
 pub placed : (last c at r : ℕ) (cs : List ℕ) → at ≡ place_of last cs → last ≤ c → r ≡ at + place_of c (drop at cs) → r ≡ place_of c cs
 placed last c at r cs e h k = k ∙ ap (λ n. n + place_of c (drop n cs)) e ∙ place-from last c cs h
+
+pub place-inside : (last at : ℕ) (cs : List ℕ) → at ≡ place_of last cs → at ≤ length cs
+place-inside last at cs e = let h = short cs in omega arith
+  where
+    short : (cs : List ℕ) → place_of last cs ≤ length cs
+    short [] = omega arith
+    short (x ∷ cs) = go (leb last x) (short cs)
+      where
+        go : (b : Bool) → place_of last cs ≤ length cs → length (cond b [] (x ∷ before (λ y. leb last y) cs)) ≤ suc (length cs)
+        go true h = omega arith
+        go false h = omega arith
 
 pub first-place : (cs : List ℕ) → 0 ≡ place_of 0 cs
 first-place [] = refl
@@ -159,33 +163,21 @@ module _ (ids codes : List ℕ) where
   term-added n place c v cs os ms ss f t e k scores next s p q r =
       r ∙ ap (λ es. grown_by n ms ss v es scores) (ap (λ z. slice f z (entries ids codes)) (q ∙ ap (min t) p) ∙ clipped f t ∙ s (entries ids codes))
 
-module _ (qs : List ℕ) (ws : List Float) where
-  paired_at : (cs : List ℕ) (vs : List Float) (i : ℕ) → i < length cs → i < length vs → drop i (paired cs vs) ≡ term (get_or cs i 0) (get_or vs i nan) ∷ drop (i + 1) (paired cs vs)
-  unfolding paired zip_with
-  paired_at [] vs i h k = let z : ⊥ = omega arith in absurd z
-  paired_at (c ∷ cs) [] i h k = let z : ⊥ = omega arith in absurd z
-  paired_at (c ∷ cs) (v ∷ vs) zero h k = refl
-  paired_at (c ∷ cs) (v ∷ vs) (suc i) h k = let z : suc i + 1 ≡ suc (i + 1) = omega arith in rw z (paired_at cs vs i (omega arith) (omega arith))
+-- one pair of the query more, where what is left of its two lists is known
+pub query-turn : (n : ℕ) (l : Layout) (cs : List ℕ) (c : ℕ) (v : Float) (qs left : List ℕ) (ws rest : List Float) (place : ℕ) (scores next : List Float) → qs ≡ c ∷ left → ws ≡ v ∷ rest → cs ≡ l.summary_components → place ≡ place_of c cs
+    → next ≡ grown_by n l.minimums l.steps v (entries_at l place c) scores
+    → walked n l (paired left rest) next ≡ walked n l (paired qs ws) scores
+unfolding walked paired zip_with
+query-turn n l cs c v qs left ws rest place scores next a b s p e = rw (a, b) (ap (walked n l (paired left rest)) (e ∙ ap (λ z. grown_by n l.minimums l.steps v (entries_at l z c) scores) (p ∙ ap (place_of c) s)))
 
-  paired-few : (cs : List ℕ) (vs : List Float) → length (paired cs vs) ≤ min (length cs) (length vs)
-  unfolding paired zip_with
-  paired-few [] vs = omega arith
-  paired-few (c ∷ cs) [] = omega arith
-  paired-few (c ∷ cs) (v ∷ vs) = let i = paired-few cs vs in omega arith
+pub query-end : (n : ℕ) (l : Layout) (qs : List ℕ) (ws : List Float) (scores : List Float) → (qs ≡ []) ⊎ (ws ≡ []) → walked n l (paired qs ws) scores ≡ scores
+unfolding walked paired zip_with
+query-end n l qs ws scores (inl a) = rw a refl
+query-end n l [] ws scores (inr b) = refl
+query-end n l (q ∷ qs) ws scores (inr b) = rw b refl
 
-  pub query-turn : (n : ℕ) (cs os is ks : List ℕ) (ms ss : List Float) (i terms place : ℕ) (scores next : List Float) → terms ≡ min (length qs) (length ws) → i < terms → place ≡ place_of (get_or qs i 0) cs
-      → next ≡ grown_by n ms ss (get_or ws i nan) (entries_at (arrays cs os is ks ms ss) place (get_or qs i 0)) scores
-      → walked n (arrays cs os is ks ms ss) (drop (i + 1) (paired qs ws)) next ≡ walked n (arrays cs os is ks ms ss) (drop i (paired qs ws)) scores
-  unfolding walked
-  query-turn n cs os is ks ms ss i terms place scores next t h p e =
-      rw (paired_at qs ws i (omega arith) (omega arith)) (ap (walked n (arrays cs os is ks ms ss) (drop (i + 1) (paired qs ws))) (e ∙ ap (λ z. grown_by n ms ss (get_or ws i nan) (entries_at (arrays cs os is ks ms ss) z (get_or qs i 0)) scores) p))
-
-  pub query-end : (n : ℕ) (l : Layout) (i terms : ℕ) (scores : List Float) → terms ≡ min (length qs) (length ws) → terms ≤ i → walked n l (drop i (paired qs ws)) scores ≡ scores
-  unfolding walked
-  query-end n l i terms scores t h = let k = paired-few qs ws in let z : length (paired qs ws) ≤ i = omega arith in rw (drop_of_length-le (paired qs ws) z)
-
-  pub all-scored : (l : Layout) (n a : ℕ) (buffer clear scores : List Float) → a ≡ summary_count l → n ≡ min a (length buffer) → clear ≡ replicate n (fin false 0 (pos 0)) ++ drop n buffer
-      → scores ≡ walked n l (paired qs ws) clear → scores ≡ put_in (scores_of l (paired qs ws)) buffer
-  all-scored l n a buffer clear scores p q c e =
-      let z : n ≡ min (summary_count l) (length buffer) = q ∙ ap (λ k. min k (length buffer)) p in
-      e ∙ ap (walked n l (paired qs ws)) c ∙ ap (λ k. walked k l (paired qs ws) (replicate k (fin false 0 (pos 0)) ++ drop k buffer)) z ∙ walk-scores l (paired qs ws) buffer
+pub all-scored : (qs : List ℕ) (ws : List Float) (l : Layout) (n a : ℕ) (buffer clear scores : List Float) → a ≡ summary_count l → n ≡ min a (length buffer) → clear ≡ replicate n (fin false 0 (pos 0)) ++ drop n buffer
+    → scores ≡ walked n l (paired qs ws) clear → scores ≡ put_in (scores_of l (paired qs ws)) buffer
+all-scored qs ws l n a buffer clear scores p q c e =
+    let z : n ≡ min (summary_count l) (length buffer) = q ∙ ap (λ k. min k (length buffer)) p in
+    e ∙ ap (walked n l (paired qs ws)) c ∙ ap (λ k. walked k l (paired qs ws) (replicate k (fin false 0 (pos 0)) ++ drop k buffer)) z ∙ walk-scores l (paired qs ws) buffer

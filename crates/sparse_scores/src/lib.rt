@@ -17,25 +17,20 @@ fn clear(n: usize, block_scores: &mut [f32])
     requires { n ≤ length block_scores.old }
     ensures { block_scores.new ≡ replicate n (fin false 0 (pos 0)) ++ drop n block_scores.old }
 {
-    let mut i = 0usize;
-    while i < n {
-        block_scores[i] = 0.0;
-        i += 1;
-    }
+    block_scores[..n].fill(0.0);
 }
 
 // The first place from `from` on whose component is not below c.
 fn seek(summary_components: &[u32], from: usize, c: u32) -> usize
+    requires { from ≤ length summary_components.now }
     ensures { result ≡ from + place_of c (drop from summary_components.now) }
 {
-    let mut at = from;
-    while at < summary_components.len() {
+    for at in from..summary_components.len() {
         if c <= summary_components[at] {
             return at;
         }
-        at += 1;
     }
-    at
+    summary_components.len()
 }
 
 // The place of c, looked for from the place `at` of the component looked for before; from the start, should the query's components fall.
@@ -124,8 +119,7 @@ fn add_entries(
     ensures { block_scores.new ≡ grown_by n minimums.now steps.now value (slice from to (entries summary_ids.now codes.now))
         block_scores.old }
 {
-    let mut i = from;
-    while i < to {
+    for i in from..to {
         add_entry(
             n,
             minimums,
@@ -135,7 +129,6 @@ fn add_entries(
             codes[i],
             block_scores,
         );
-        i += 1;
     }
 }
 
@@ -160,14 +153,13 @@ fn add_term(
         summary_ids.now codes.now minimums.now steps.now) place c) block_scores.old }
 {
     let range = range_at(summary_components, component_offsets, place, c);
-    let from = range.from;
     let end = shorter(range.to, shorter(summary_ids.len(), codes.len()));
     add_entries(
         n,
         minimums,
         steps,
         value,
-        from,
+        range.from,
         end,
         summary_ids,
         codes,
@@ -192,20 +184,17 @@ pub fn distances(
         minimums.now steps.now) (paired query_components.now query_values.now)) block_scores.old }
 {
     let n = shorter(shorter(minimums.len(), steps.len()), block_scores.len());
-    let terms = shorter(query_components.len(), query_values.len());
     clear(n, block_scores);
     let mut place = 0usize;
     let mut last = 0u32;
-    let mut i = 0usize;
-    while i < terms {
-        let c = query_components[i];
-        place = next_place(summary_components, place, last, c);
-        last = c;
+    for (c, value) in query_components.iter().zip(query_values) {
+        place = next_place(summary_components, place, last, *c);
+        last = *c;
         add_term(
             n,
             place,
-            c,
-            query_values[i],
+            *c,
+            *value,
             summary_components,
             component_offsets,
             summary_ids,
@@ -214,6 +203,5 @@ pub fn distances(
             steps,
             block_scores,
         );
-        i += 1;
     }
 }

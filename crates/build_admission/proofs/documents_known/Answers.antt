@@ -12,13 +12,13 @@ returns-then-not-offsets_hold c =
 pub returns-then-not-ids_hold : goal.returns-then-not-ids_hold
 returns-then-not-ids_hold c =
     let a = c.args in
-    ids-fail (documents a.offsets.now a.components.now a.values.now) a.ids.now a.centroids.now c.document_count-count.result
-    c.document_count-count.ensures (sym c.offsets_hold.ensures ∙ not-false _ c.if-not-offsets_hold.false-raw)
+    ids-fail (documents a.offsets.now a.components.now a.values.now) a.ids.now a.centroids.now c.saturating_sub-count.result
+    c.saturating_sub-count.ensures (sym c.offsets_hold.ensures ∙ not-false _ c.if-not-offsets_hold.false-raw)
     (sym c.ids_hold.ensures ∙ not-true _ c.if-not-ids_hold.true-raw)
 
 pub returns : goal.returns
 returns c =
     let a = c.args in
-    ids-left (documents a.offsets.now a.components.now a.values.now) a.ids.now a.centroids.now c.document_count-count.result
-    c.document_count-count.ensures (sym c.offsets_hold.ensures ∙ not-false _ c.if-not-offsets_hold.false-raw) _
+    ids-left (documents a.offsets.now a.components.now a.values.now) a.ids.now a.centroids.now c.saturating_sub-count.result
+    c.saturating_sub-count.ensures (sym c.offsets_hold.ensures ∙ not-false _ c.if-not-offsets_hold.false-raw) _
     (sym c.ids_hold.ensures ∙ not-false _ c.if-not-ids_hold.false-raw) c.ids_hold-2.ensures

@@ -4,19 +4,19 @@ use native.Mathlib.Omega.{arith}
 use Rattle.build_admission.proofs.Laws.{range-ordered, start-step, length-step, every-end, both-fit}
 use Rattle.build_admission.proofs.ranges_fit.Goals as goal
 
-pub loop-i-init : goal.loop-i-init
-loop-i-init c = (omega arith, refl, refl)
+pub loop-id-init : goal.loop-id-init
+loop-id-init c = (omega arith, refl, refl)
 
-pub overflow_sub-end : goal.overflow_sub-end
-overflow_sub-end c =
-    range-ordered c.args.offsets.now c.args.ids.now c.loop-i.i c.range_of-range.result c.range_of-range.ensures
+pub overflow_sub-range : goal.overflow_sub-range
+overflow_sub-range c =
+    range-ordered c.args.offsets.now c.args.ids.now c.loop-id.id-index c.range_of-range.result c.range_of-range.ensures
 
-pub loop-i-preserved : goal.loop-i-preserved
-loop-i-preserved c =
+pub loop-id-preserved : goal.loop-id-preserved
+loop-id-preserved c =
     let a = c.args in
-    let l = c.loop-i in
+    let l = c.loop-id in
     let r = c.range_of-range in
-    (omega arith, start-step a.offsets.now a.ids.now l.i r.result r.ensures l.starts _ c.start_fits-starts.ensures (omega arith) ∙ l.invariant.1, length-step a.offsets.now a.ids.now l.i r.result r.ensures l.lengths _ c.length_fits-lengths.ensures (omega arith) ∙ l.invariant.2)
+    (omega arith, start-step a.offsets.now a.ids.now l.id-index r.result r.ensures l.starts _ c.start_fits-starts.ensures (omega arith) ∙ l.invariant.1, length-step a.offsets.now a.ids.now l.id-index r.result r.ensures l.lengths _ c.length_fits-lengths.ensures (omega arith) ∙ l.invariant.2)
 
 pub returns : goal.returns
-returns c = let l = c.loop-i in let a = c.args in both-fit a.offsets.now a.ids.now l.starts l.lengths (every-end _ l.starts a.ids.now l.i _ (omega arith) l.invariant.1) (every-end _ l.lengths a.ids.now l.i _ (omega arith) l.invariant.2)
+returns c = let l = c.loop-id in let a = c.args in both-fit a.offsets.now a.ids.now l.starts l.lengths (every-end _ l.starts a.ids.now l.id-index _ (omega arith) l.invariant.1) (every-end _ l.lengths a.ids.now l.id-index _ (omega arith) l.invariant.2)

@@ -1,5 +1,5 @@
 -- `build_scratch::term_total` meets its contract. What is summed, and the terms of the documents left, make the whole.
-use Prim.Native.Nat.{◌+◌, ◌-◌, ◌<◌}
+use Prim.Native.Nat.{◌+◌, ◌<◌}
 use mathlib.Core.Path.{◌≡◌}
 use mathlib.Core.List.{map}
 use lib.ListN.{length, drop}
@@ -8,8 +8,5 @@ use Rattle.documents.specs.Documents.{documents, terms}
 use Rattle.build_scratch.specs.Lengths.{capped}
 use Rattle.build_scratch.proofs.term_total.Given as goal
 
-abbrev pub invariant-loop-i : goal.invariant-loop-i
-invariant-loop-i l = (l.total < 18446744073709551616) × (capped (l.total + length (joined (map (terms (documents l.offsets l.components l.values)) (drop l.i l.listed)))) ≡ capped (length (joined (map (terms (documents l.offsets l.components l.values)) l.listed))))
-
-abbrev pub decreases-loop-i : goal.decreases-loop-i
-decreases-loop-i l = length l.listed - l.i
+abbrev pub invariant-loop-id : goal.invariant-loop-id
+invariant-loop-id l = (l.total < 18446744073709551616) × (capped (l.total + length (joined (map (terms (documents l.offsets l.components l.values)) (drop l.id-index l.listed)))) ≡ capped (length (joined (map (terms (documents l.offsets l.components l.values)) l.listed))))

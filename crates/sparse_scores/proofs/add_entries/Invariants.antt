@@ -1,5 +1,4 @@
 -- `sparse_scores::add_entries` meets its contract. The walk of the entries left, from the scores so far, is the walk of all.
-use Prim.Native.Nat.{◌-◌}
 use mathlib.Core.Path.{◌≡◌}
 use lib.ListN.{length}
 use lib.Seq.{slice}
@@ -9,6 +8,3 @@ use Rattle.sparse_scores.proofs.add_entries.Given as goal
 
 abbrev pub invariant-loop-i : goal.invariant-loop-i
 invariant-loop-i l = (length l.block_scores ≡ length l.initial.block_scores) × (grown_by l.n l.minimums l.steps l.value (slice l.i l.to (entries l.summary_ids l.codes)) l.block_scores ≡ grown_by l.n l.minimums l.steps l.value (slice l.from l.to (entries l.summary_ids l.codes)) l.initial.block_scores)
-
-abbrev pub decreases-loop-i : goal.decreases-loop-i
-decreases-loop-i l = l.to - l.i

@@ -2,30 +2,34 @@
 -- the definition's scores.
 use mathlib.Core.Path.{refl, ◌∙◌, sym}
 use borrow.Author.Rules.{rules}
+use Rattle.std.proofs.lemmas.Slice.Zip.{Zip-more, either_empty_from_Zip}
 use Rattle.sparse_scores.specs.Layout.{arrays}
 use Rattle.sparse_scores.proofs.Walks.{first-place, query-turn, query-end, all-scored}
 use Rattle.sparse_scores.proofs.distances.Goals as goal
 
-pub loop-i-init : goal.loop-i-init
-loop-i-init c = (refl, first-place c.args.summary_components.now, refl)
+pub loop-c-init : goal.loop-c-init
+loop-c-init c = (refl, first-place c.args.summary_components.now, search rules)
 
-pub loop-i-preserved : goal.loop-i-preserved
-loop-i-preserved c =
+pub loop-c-preserved : goal.loop-c-preserved
+loop-c-preserved c =
     let a = c.args in
-    let l = c.loop-i in (
+    let l = c.loop-c in
+    let pair = Zip-more l.c-iterator c.next.new.self _ (c.in-Some.c, c.in-Some.value) c.in-Some.is c.next.ensures.steps in (
       search rules,
       c.next_place-place.ensures,
-      query-turn a.query_components.now a.query_values.now c.shorter-n.result a.summary_components.now a.component_offsets.now a.summary_ids.now a.codes.now
-          a.minimums.now a.steps.now l.i c.shorter-terms.result c.next_place-place.result l.block_scores _ c.shorter-terms.ensures
-          c.loop-i-test.true c.next_place-place.ensures c.add_term.ensures ∙ l.invariant.2,
+      query-turn c.shorter-n.result (arrays a.summary_components.now a.component_offsets.now a.summary_ids.now a.codes.now a.minimums.now a.steps.now)
+          a.summary_components.now c.in-Some.c.now c.in-Some.value.now _ _ _ _ c.next_place-place.result l.block_scores _ pair.0 pair.1 refl
+          c.next_place-place.ensures c.add_term.ensures ∙ l.invariant.2,
     )
+
+pub next_place-place-requires : goal.next_place-place-requires
+next_place-place-requires c = c.loop-c.invariant.1
 
 pub returns : goal.returns
 returns c =
     let a = c.args in
-    let l = c.loop-i in
+    let l = c.loop-c in
     let all = arrays a.summary_components.now a.component_offsets.now a.summary_ids.now a.codes.now a.minimums.now a.steps.now in
     all-scored a.query_components.now a.query_values.now all c.shorter-n.result c.shorter.result a.block_scores.now c.clear.new.block_scores
     l.block_scores c.shorter.ensures c.shorter-n.ensures c.clear.ensures
-    (sym (query-end a.query_components.now a.query_values.now c.shorter-n.result all l.i c.shorter-terms.result l.block_scores
-    c.shorter-terms.ensures c.loop-i-test.false) ∙ l.invariant.2)
+    (sym (query-end c.shorter-n.result all _ _ l.block_scores (either_empty_from_Zip _ c.next.new.self _ c.in-None.is c.next.ensures.steps)) ∙ l.invariant.2)

@@ -1,18 +1,15 @@
 -- `sparse_scores::distances` meets its contract. The walk of the terms left, from the scores so far, is the walk of all; and the walk gives
 -- the definition's scores.
-use Prim.Native.Nat.{◌-◌}
 use mathlib.Core.Path.{◌≡◌}
-use lib.ListN.{length, drop}
+use lib.ListN.{length}
+use Rattle.std.specs.Iterator.Adapters.{zip_first, zip_second}
+use Rattle.std.specs.Slice.Iter.{iter_rest}
 use Rattle.documents.specs.Documents.{paired}
 use Rattle.sparse_scores.specs.Layout.{arrays, place_of}
 use Rattle.sparse_scores.specs.Laws.Walk.{walked}
 use Rattle.sparse_scores.proofs.distances.Given as goal
 
-abbrev pub invariant-loop-i : goal.invariant-loop-i
-invariant-loop-i l =
+abbrev pub invariant-loop-c : goal.invariant-loop-c
+invariant-loop-c l =
     (length l.block_scores ≡ length l.initial.block_scores) × (l.place ≡ place_of l.last l.summary_components)
-    × (walked l.n (arrays l.summary_components l.component_offsets l.summary_ids l.codes l.minimums l.steps) (drop l.i (paired l.query_components l.query_values)) l.block_scores ≡ walked l.n (arrays l.summary_components l.component_offsets l.summary_ids l.codes l.minimums l.steps) (paired l.query_components l.query_values) l.initial.block_scores)
-
-abbrev pub decreases-loop-i : goal.decreases-loop-i
-decreases-loop-i l =
-    l.terms - l.i
+    × (walked l.n (arrays l.summary_components l.component_offsets l.summary_ids l.codes l.minimums l.steps) (paired (iter_rest (zip_first l.c-iterator)) (iter_rest (zip_second l.c-iterator))) l.block_scores ≡ walked l.n (arrays l.summary_components l.component_offsets l.summary_ids l.codes l.minimums l.steps) (paired l.query_components l.query_values) l.initial.block_scores)
