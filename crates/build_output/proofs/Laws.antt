@@ -4,8 +4,8 @@ use native.Mathlib.Omega.{arith}
 use native.Mathlib.Numerals.{add-one}
 use mathlib.Core.Path.{◌≡◌, refl, sym, ap, ◌∙◌}
 use mathlib.Core.Logic.{⊎_elim}
-use mathlib.Core.List.{List, [], ◌∷◌, map}
-use lib.ListN.{length, get_or, set, drop, length-map, drop_of_length-le}
+use mathlib.Core.List.{List, [], ◌∷◌, ◌++◌, map}
+use lib.ListN.{length, get_or, set, take, drop, length-map, drop_of_length-le}
 use lib.Seq.{sets, drop-cons}
 use Rattle.sequences.specs.Laws.Lists.{le-or-lt}
 use Rattle.packing.specs.declared.PackedPosting.{PackedPosting}
@@ -41,6 +41,19 @@ write-end out before now i h e = sym (rest out now i h) ∙ e
   where
     rest : (out now : List ℕ) (i : ℕ) → min (length out) (length now) ≤ i → sets now i (drop i out) ≡ now
     rest out now i h = ⊎_elim (λ a. ap (sets now i) (drop_of_length-le out a)) (λ b. sets-past now (drop i out) i (omega arith)) (le-or-lt (length out) i)
+
+-- the front of a list, as far as there is room, in front of the other
+sets-behind : (y : ℕ) (l : List ℕ) (i : ℕ) (vs : List ℕ) → sets (y ∷ l) (suc i) vs ≡ y ∷ sets l i vs
+sets-behind y l i [] = refl
+sets-behind y l i (x ∷ vs) = sets-behind y (set l i x) (suc i) vs
+
+pub in-front : (vs l : List ℕ) (n : ℕ) → n ≡ min (length vs) (length l) → take n vs ++ drop n l ≡ sets l 0 vs
+in-front [] l zero e = refl
+in-front [] l (suc n) e = let z : ⊥ = omega arith in absurd z
+in-front (x ∷ vs) [] zero e = sym (sets-past [] (x ∷ vs) 0 (omega arith))
+in-front (x ∷ vs) [] (suc n) e = let z : ⊥ = omega arith in absurd z
+in-front (x ∷ vs) (y ∷ l) zero e = let z : ⊥ = omega arith in absurd z
+in-front (x ∷ vs) (y ∷ l) (suc n) e = ap (λ r. x ∷ r) (in-front vs l n (omega arith)) ∙ sym (sets-behind x l 0 vs)
 
 -- ---- a posting for each document
 get_d-mapped : (f : ℕ → ℕ) (l : List ℕ) (i : ℕ) → i < length l → f (get_or l i 0) ≡ get_or (map f l) i 0

@@ -32,10 +32,8 @@ fn write_postings(offsets: &[u64], order: &[u64], postings: &mut [u64])
     ensures { postings.new ≡ sets postings.old 0 (map (posting_of (documents offsets.now [] [])) order.now) }
 {
     let end = shorter(order.len(), postings.len());
-    let mut i = 0usize;
-    while i < end {
+    for i in 0..end {
         postings[i] = posting(offsets, DocumentId(order[i]));
-        i += 1;
     }
 }
 
@@ -44,11 +42,7 @@ fn write_offsets(blocks: &[u64], block_offsets: &mut [u64])
     ensures { block_offsets.new ≡ sets block_offsets.old 0 blocks.now }
 {
     let end = shorter(blocks.len(), block_offsets.len());
-    let mut i = 0usize;
-    while i < end {
-        block_offsets[i] = blocks[i];
-        i += 1;
-    }
+    block_offsets[..end].copy_from_slice(&blocks[..end]);
 }
 
 // Lays out the components whose counts stand in front of `entry_counts`, places the entries of the blocks' summaries, and writes the postings

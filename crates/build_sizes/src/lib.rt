@@ -25,17 +25,6 @@ pub struct OutputLengths {
     pub steps: u64,
 }
 
-// How many blocks so many offsets stand for.
-fn block_count(offsets: usize) -> u64
-    ensures { result ≡ offsets - 1 }
-{
-    if offsets == 0 {
-        0
-    } else {
-        (offsets - 1) as u64
-    }
-}
-
 // The sizes of the result, or 4 where an output buffer is too short for its part.
 fn judge_room(
     postings: usize,
@@ -46,7 +35,7 @@ fn judge_room(
     ensures { result ≡ room_answer postings offsets entry_counts.now lent }
 {
     let sizes = sparse_layout::sizes_of(entry_counts);
-    let summaries = block_count(offsets);
+    let summaries = offsets.saturating_sub(1) as u64;
     let entries = (sizes.entries <= lent.summary_ids) & (sizes.entries <= lent.codes);
     let terms = (sizes.components <= lent.summary_components)
         & (sizes.components < lent.component_offsets);
@@ -79,7 +68,7 @@ fn judge_work(
     if blocking::limits::dimension_outside(dimension) {
         return Verdict::Refused(Refusal::OutsideLimits);
     }
-    if blocking::limits::too_many_blocks(block_count(offsets)) {
+    if blocking::limits::too_many_blocks(offsets.saturating_sub(1) as u64) {
         return Verdict::Refused(Refusal::OutsideLimits);
     }
     let needed = dimension as usize;

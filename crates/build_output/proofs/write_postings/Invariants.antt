@@ -10,6 +10,3 @@ use Rattle.build_output.proofs.write_postings.Given as goal
 
 abbrev pub invariant-loop-i : goal.invariant-loop-i
 invariant-loop-i l = (l.i ≤ l.end) × (l.end ≡ min (length l.order) (length l.initial.postings)) × (length l.postings ≡ length l.initial.postings) × (sets l.postings l.i (drop l.i (map (posting_of (documents l.offsets [] [])) l.order)) ≡ sets l.initial.postings 0 (map (posting_of (documents l.offsets [] [])) l.order))
-
-abbrev pub decreases-loop-i : goal.decreases-loop-i
-decreases-loop-i l = l.end - l.i
