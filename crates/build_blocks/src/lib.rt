@@ -24,11 +24,7 @@ fn copy(ids: &[u64], order: &mut [u64])
     requires { length ids.now ≤ length order.old }
     ensures { order.new ≡ laid ids.now order.old }
 {
-    let mut i = 0usize;
-    while i < ids.len() {
-        order[i] = ids[i];
-        i += 1;
-    }
+    order[..ids.len()].copy_from_slice(ids);
 }
 
 // Blocks of a fixed size: the documents stay as they are listed.
@@ -50,13 +46,9 @@ fn longest(offsets: &[u64], components: &[u32], values: &[f32], ids: &[u64]) -> 
     ensures { result ≡ longest_of (documents offsets.now components.now values.now) ids.now }
 {
     let mut most = 0u64;
-    let mut i = 0usize;
-    while i < ids.len() {
-        let p = cluster_index::places_of(offsets, components, values, DocumentId(ids[i]));
-        let from = p.from;
-        let to = p.to;
-        most = cells::greater_u64(most, (to - from) as u64);
-        i += 1;
+    for id in ids {
+        let p = cluster_index::places_of(offsets, components, values, DocumentId(*id));
+        most = cells::greater_u64(most, (p.to - p.from) as u64);
     }
     most
 }

@@ -1,13 +1,10 @@
 -- `longest` answers the greatest count of terms. The loop's invariant: the most so far, or the longest of those left, is the longest of all.
-use Prim.Native.Nat.{◌-◌, max}
+use Prim.Native.Nat.{max}
 use mathlib.Core.Path.{◌≡◌}
-use lib.ListN.{length, drop}
+use lib.ListN.{drop}
 use Rattle.documents.specs.Documents.{documents}
 use Rattle.build_blocks.specs.Longest.{longest_of}
 use Rattle.build_blocks.proofs.longest.Given as goal
 
-abbrev pub invariant-loop-i : goal.invariant-loop-i
-invariant-loop-i l = max l.most (longest_of (documents l.offsets l.components l.values) (drop l.i l.ids)) ≡ longest_of (documents l.offsets l.components l.values) l.ids
-
-abbrev pub decreases-loop-i : goal.decreases-loop-i
-decreases-loop-i l = length l.ids - l.i
+abbrev pub invariant-loop-id : goal.invariant-loop-id
+invariant-loop-id l = max l.most (longest_of (documents l.offsets l.components l.values) (drop l.id-index l.ids)) ≡ longest_of (documents l.offsets l.components l.values) l.ids
