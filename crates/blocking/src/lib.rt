@@ -11,8 +11,8 @@ ghost use Rattle.blocking.specs.Blocking.{blocked, offsets_left, in_front, fixed
 use limits::{list_too_long, too_many_blocks};
 
 // Writes where each block of a list of `ids` starts, and then where the last one ends: one more than there are blocks. Each
-// block has `block_size` ids, but for the last, which has what is left too. Answers how many offsets it wrote, or why none. Past the offsets nothing changes, and a refusal
-// changes nothing at all. It takes time in proportion to the number of blocks.
+// block has `block_size` ids, but for the last, which has what is left too. Answers how many offsets it wrote, or why none.
+// Past the offsets nothing changes, and a refusal changes nothing at all. It takes time in proportion to the number of blocks.
 pub fn fixed_size_blocking(
     ids: u64,
     block_size: u64,

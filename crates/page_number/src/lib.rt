@@ -29,8 +29,8 @@ fn first_from(offsets: &[u64], start: RangeStart, count: usize) -> usize
 }
 
 // The smallest document whose start is the asked one, for any offsets whose first is 0 and that never fall: the last one, where no
-// document starts, need not be the number of terms. Refuses other offsets (6), and then a start that no document has (15). One pass to check
-// the offsets, then a binary search.
+// document starts, need not be the number of terms. Refuses other offsets (6), and then a start that no document has (15). One pass
+// to check the offsets, then a binary search.
 pub fn page_number(offsets: &[u64], start: RangeStart) -> Result<DocumentId, Refusal>
     ensures { result ≡ page_number offsets.now start.0 }
 {
