@@ -1,6 +1,7 @@
 -- Blocking: document 01, "Leaves first".
-use Rattle.std.specs.Prelude.{ℕ, ◌+◌, ◌*◌, ◌/◌, max, List, [], ◌∷◌, ◌++◌, map, ◌⊎◌, leb, ltb, eqb, Float, length, drop}
+use Rattle.std.specs.Prelude.{ℕ, ◌+◌, ◌*◌, ◌/◌, max, List, [], ◌∷◌, ◌++◌, map, ◌⊎◌, leb, ltb, eqb, Float, length, drop, Result, Ok, Err}
 use Rattle.std.proofs.Common.{inl, inr}
+use Rattle.refusal.specs.declared.Refusal.{Refusal}
 use Rattle.refusal.specs.declared.Refusal.TheVariants.{NoBlockSize, BufferTooShort, OutsideLimits}
 use Rattle.refusal.specs.declared.Verdict.{Verdict}
 use Rattle.refusal.specs.declared.Verdict.TheVariants as verdict
@@ -8,8 +9,6 @@ use Rattle.refusal.specs.Refusals.{number_of}
 use Rattle.refusal.specs.First.{Test, ◌gives◌, first_of}
 use Rattle.sequences.specs.Lists.{from}
 use Rattle.float32.specs.Count.{scaled_length}
-use Rattle.blocking.specs.declared.BlockingAnswer.{BlockingAnswer}
-use Rattle.blocking.specs.declared.BlockingAnswer.TheVariants.{Written, Refused}
 use Rattle.blocking.specs.Limits.{list_limit, block_limit}
 
 -- i x b for i below k
@@ -29,12 +28,12 @@ blocking_tests n b room =
     ∷ (leb room (n / b) gives BufferTooShort)
     ∷ []
 
-abbrev pub answered : Verdict → ℕ → BlockingAnswer
-answered verdict.Accepted number = Written number
-answered (verdict.Refused r) number = Refused r
+abbrev pub answered : Verdict → ℕ → Result ℕ Refusal
+answered verdict.Accepted number = Ok number
+answered (verdict.Refused r) number = Err r
 
 -- what blocking a list of n ids by b comes to
-unfoldable pub blocked : ℕ → ℕ → List ℕ → BlockingAnswer
+unfoldable pub blocked : ℕ → ℕ → List ℕ → Result ℕ Refusal
 blocked n b buffer = answered (first_of (blocking_tests n b (length buffer))) (n / b + 1)
 
 -- a result at the front of a lent buffer; past it nothing changes
@@ -50,9 +49,9 @@ unfoldable pub offsets_left : ℕ → ℕ → List ℕ → List ℕ
 offsets_left n b buffer = left (first_of (blocking_tests n b (length buffer))) (fixed_offsets n b) buffer
 
 -- an answer in document 01's terms: the number of the refusal, or how many offsets were written
-abbrev pub in_numbers : BlockingAnswer → ℕ ⊎ ℕ
-in_numbers (Refused r) = inl (number_of r)
-in_numbers (Written number) = inr number
+abbrev pub in_numbers : Result ℕ Refusal → ℕ ⊎ ℕ
+in_numbers (Err r) = inl (number_of r)
+in_numbers (Ok number) = inr number
 
 -- fraction x length, cut to a whole number (NaN and negative to 0), at least 1
 abbrev pub centroid_count : Float → ℕ → ℕ

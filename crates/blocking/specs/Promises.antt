@@ -1,7 +1,7 @@
 -- What fixed blocking promises: which answer is given when, in document 01's numbers, and what it leaves in the lent buffer.
-use Rattle.std.specs.Prelude.{ℕ, ◌+◌, ◌≤◌, ◌<◌, ◌/◌, ◌≡◌, true, false, ◌⊎◌, List, ltb, length}
+use Rattle.std.specs.Prelude.{ℕ, ◌+◌, ◌≤◌, ◌<◌, ◌/◌, ◌≡◌, true, false, ◌⊎◌, List, ltb, length, Result}
 use Rattle.std.proofs.Common.{sym, ap, inl, inr}
-use Rattle.blocking.specs.declared.BlockingAnswer.{BlockingAnswer}
+use Rattle.refusal.specs.declared.Refusal.{Refusal}
 use Rattle.blocking.specs.Limits.{list_limit, block_limit}
 use Rattle.blocking.specs.Blocking.{fixed_offsets, blocked, in_front, offsets_left, in_numbers}
 use Rattle.blocking.specs.Blocks.{Blocks}
@@ -15,7 +15,7 @@ pub record Gives (n b : ℕ) (buffer : List ℕ) (answer : ℕ ⊎ ℕ) (after :
   pub leaves : offsets_left n b buffer ≡ after
 
 module _ (n b : ℕ) (buffer : List ℕ) where
-  shown : (answer : BlockingAnswer) (after : List ℕ) → Blocks n b buffer answer after → Gives n b buffer (in_numbers answer) after
+  shown : (answer : Result ℕ Refusal) (after : List ℕ) → Blocks n b buffer answer after → Gives n b buffer (in_numbers answer) after
   shown answer after h = record { answers = ap in_numbers (sym h.0); leaves = sym h.1 }
 
   pub refuses-length : ltb list_limit n ≡ true → Gives n b buffer (inl 8) buffer

@@ -10,35 +10,32 @@ ghost use Rattle.blocking.specs.Blocking.{blocked, offsets_left, in_front, fixed
 
 use limits::{list_too_long, too_many_blocks};
 
-// What blocking comes to: how many offsets were written, or why none was.
-#[derive(Drop)]
-pub enum BlockingAnswer {
-    Written(u64),
-    Refused(Refusal),
-}
-
 // Writes where each block of a list of `ids` starts, and then where the last one ends: one more than there are blocks. Each
-// block has `block_size` ids, but for the last, which has what is left too. Past the offsets nothing changes, and a refusal
-// changes nothing at all. It takes time in proportion to the number of blocks.
-pub fn fixed_size_blocking(ids: u64, block_size: u64, block_offsets: &mut [u64]) -> BlockingAnswer
+// block has `block_size` ids, but for the last, which has what is left too. Answers how many offsets it wrote, or why none.
+// Past the offsets nothing changes, and a refusal changes nothing at all. It takes time in proportion to the number of blocks.
+pub fn fixed_size_blocking(
+    ids: u64,
+    block_size: u64,
+    block_offsets: &mut [u64],
+) -> Result<u64, Refusal>
     ensures answer { result ≡ blocked ids block_size block_offsets.old }
     ensures block_offsets { block_offsets.new ≡ offsets_left ids block_size block_offsets.old }
 {
     if list_too_long(ids) {
-        return BlockingAnswer::Refused(Refusal::OutsideLimits);
+        return Err(Refusal::OutsideLimits);
     }
     if block_size == 0 {
-        return BlockingAnswer::Refused(Refusal::NoBlockSize);
+        return Err(Refusal::NoBlockSize);
     }
     let blocks = ids / block_size;
     if too_many_blocks(blocks) {
-        return BlockingAnswer::Refused(Refusal::OutsideLimits);
+        return Err(Refusal::OutsideLimits);
     }
     if block_offsets.len() as u64 <= blocks {
-        return BlockingAnswer::Refused(Refusal::BufferTooShort);
+        return Err(Refusal::BufferTooShort);
     }
     write_offsets(ids, block_size, blocks as usize, block_offsets);
-    BlockingAnswer::Written(blocks + 1)
+    Ok(blocks + 1)
 }
 
 // Writes the starts of as many blocks as there are, and then the end of the list.

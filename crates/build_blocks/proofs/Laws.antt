@@ -1,4 +1,5 @@
 -- Fixed blocking, over plain lists.
+use Rattle.std.specs.Prelude.{Result, Ok, Err, IsOk}
 use Prim.Native.Nat.{ℕ, ◌+◌, ◌/◌}
 use native.Mathlib.Numerals.{add-one}
 use mathlib.Core.Path.{◌≡◌, sym, ap, ◌∙◌}
@@ -8,31 +9,25 @@ use lib.ListN.{length}
 use Rattle.refusal.specs.declared.Refusal.{Refusal}
 use Rattle.refusal.specs.declared.Verdict.TheVariants as verdict
 use Rattle.refusal.specs.First.{first_of}
-use Rattle.blocking.specs.declared.BlockingAnswer.{BlockingAnswer}
-use Rattle.blocking.specs.declared.BlockingAnswer.TheVariants.{Written, Refused}
 use Rattle.blocking.specs.Blocking.{blocking_tests, answered, blocked, left as left_in, offsets_left, fixed_offsets}
 use Rattle.blocking.specs.Laws.Blocking.{offsets-number}
 use Rattle.build_meaning.specs.Building.{laid}
 
 -- ---- fixed blocking that is accepted
-abbrev number_in : BlockingAnswer → ℕ
-number_in (Written n) = n
-number_in (Refused r) = 0
-
-abbrev is_written : BlockingAnswer → Bool
-is_written (Written n) = true
-is_written (Refused r) = false
+abbrev number_in : Result ℕ Refusal → ℕ
+number_in (Ok n) = n
+number_in (Err r) = 0
 
 module _ (n b : ℕ) (buffer : List ℕ) (h : first_of (blocking_tests n b (length buffer)) ≡ verdict.Accepted) where
-  answer-is : (a : BlockingAnswer) → a ≡ blocked n b buffer → a ≡ Written (n / b + 1)
+  answer-is : (a : Result ℕ Refusal) → a ≡ blocked n b buffer → a ≡ Ok (n / b + 1)
   unfolding blocked
   answer-is a e = e ∙ ap (λ v. answered v (n / b + 1)) h
 
-  pub written_count : (a : BlockingAnswer) (count : ℕ) → a ≡ blocked n b buffer → a ≡ Written count → count ≡ length (fixed_offsets n b)
+  pub written_count : (a : Result ℕ Refusal) (count : ℕ) → a ≡ blocked n b buffer → a ≡ Ok count → count ≡ length (fixed_offsets n b)
   written_count a count e w = ap number_in (sym w ∙ answer-is a e) ∙ add-one (n / b) ∙ sym (offsets-number n b)
 
-  pub never-refused : (a : BlockingAnswer) (r : Refusal) → a ≡ blocked n b buffer → a ≡ Refused r → ⊥
-  never-refused a r e w = true≢false (sym (ap is_written (sym w ∙ answer-is a e)))
+  pub never-refused : (a : Result ℕ Refusal) → a ≡ blocked n b buffer → IsOk a
+  never-refused a e = rw (answer-is a e)
 
   pub written-offsets : (now : List ℕ) → now ≡ offsets_left n b buffer → now ≡ laid (fixed_offsets n b) buffer
   unfolding offsets_left

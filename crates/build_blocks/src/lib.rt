@@ -12,7 +12,6 @@ ghost use Rattle.build_ready.specs.Made.{make_tests, left, holding, left_by};
 ghost use Rattle.build_blocks.specs.Fits.{CutFits, GroupFits};
 ghost use Rattle.build_blocks.specs.Longest.{longest_of};
 
-use blocking::BlockingAnswer;
 use build_ready::ListBlocks;
 use cells::shorter;
 use configuration::{BlockingStrategy, ClusteringAlgorithm};
@@ -35,10 +34,7 @@ fn cut(block_size: u64, ids: &[u64], order: &mut [u64], blocks: &mut [u64]) -> u
     ensures blocks { blocks.new ≡ laid (fixed_offsets (length ids.now) block_size) blocks.old }
 {
     copy(ids, order);
-    match blocking::fixed_size_blocking(ids.len() as u64, block_size, blocks) {
-        BlockingAnswer::Written(count) => count,
-        BlockingAnswer::Refused(_) => 0,
-    }
+    blocking::fixed_size_blocking(ids.len() as u64, block_size, blocks).unwrap()
 }
 
 // How many terms the longest of the listed documents has. One step for each id.

@@ -8,15 +8,6 @@ use mathlib.Core.List.{List, [], ◌∷◌, ◌++◌, map}
 use lib.ListN.{length, get_or, set, take, drop, length-map, drop_of_length-le}
 use lib.Seq.{sets, drop-cons}
 use Rattle.sequences.specs.Laws.Lists.{le-or-lt}
-use Rattle.packing.specs.declared.PackedPosting.{PackedPosting}
-use Rattle.packing.specs.declared.PackingAnswer.{PackingAnswer}
-use Rattle.packing.specs.declared.PackingAnswer.TheVariants.{Packed, Refused}
-use Rattle.packing.specs.Packing as range
-use Rattle.refusal.specs.declared.Refusal.{Refusal}
-use Rattle.documents.specs.declared.DocumentRange.{DocumentRange}
-use Rattle.documents.specs.Documents.{documents}
-use Rattle.documents.specs.Answers.{range_of}
-use Rattle.build_sizes.specs.Sized.{packed_number, posting_of}
 
 -- ---- what is left to write, written, is all written
 -- nothing is set past the end
@@ -66,13 +57,3 @@ mapped-step f order before now i x h q e = let m = length-map order f in write_s
 
 pub mapped_end : (f : ℕ → ℕ) (order before now : List ℕ) (i : ℕ) → min (length order) (length now) ≤ i → sets now i (drop i (map f order)) ≡ sets before 0 (map f order) → now ≡ sets before 0 (map f order)
 mapped_end f order before now i h e = let m = length-map order f in write-end (map f order) before now i (omega arith) e
-
-module _ (os : List ℕ) (i : ℕ) (r : DocumentRange) (a : PackingAnswer) (e : r ≡ range_of os i) (h : a ≡ range.packed r.start.0 r.end) where
-  posting-is : packed_number a ≡ posting_of (documents os [] []) i
-  posting-is = ap packed_number (h ∙ ap (λ r. range.packed r.start.0 r.end) e)
-
-  pub posting-packed : (p : PackedPosting) → a ≡ Packed p → p.0 ≡ posting_of (documents os [] []) i
-  posting-packed p w = sym (ap packed_number w) ∙ posting-is
-
-  pub posting-refused : (q : Refusal) → a ≡ Refused q → 0 ≡ posting_of (documents os [] []) i
-  posting-refused q w = sym (ap packed_number w) ∙ posting-is

@@ -14,17 +14,14 @@ use build_meaning::BuildAnswer;
 use cells::shorter;
 use configuration::SummarizationStrategy;
 use number_types::DocumentId;
-use packing::{PackedPosting, PackingAnswer};
+use packing::PackedPosting;
 
 // A document's range in one number; 0 for one that cannot be packed.
 fn posting(offsets: &[u64], id: DocumentId) -> u64
     ensures { result ≡ posting_of (documents offsets.now [] []) id.0 }
 {
     let range = documents::range_of(offsets, id);
-    match PackedPosting::pack(range.start, range.end) {
-        PackingAnswer::Packed(packed) => packed.0,
-        PackingAnswer::Refused(_) => 0,
-    }
+    PackedPosting::pack(range.start, range.end).map_or(0, |packed| packed.0)
 }
 
 // The packed ranges of the documents, in front of the postings; none past their end.

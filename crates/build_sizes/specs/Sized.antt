@@ -1,12 +1,12 @@
 -- The result of a list's blocks, when writing it is refused, and what counting its sizes answers and leaves in what it is lent.
-use Rattle.std.specs.Prelude.{ℕ, ◌+◌, ◌-◌, ◌≡◌, Bool, not, ◌&&◌, ◌||◌, cond, length, take, drop, leb, ltb, eqb}
+use Rattle.std.specs.Prelude.{ℕ, ◌+◌, ◌-◌, ◌≡◌, Bool, not, ◌&&◌, ◌||◌, cond, length, take, drop, leb, ltb, eqb, Result, Ok, Err}
 use mathlib.Core.List.{List, [], ◌∷◌, ◌++◌, map, foldl}
+use Rattle.refusal.specs.declared.Refusal.{Refusal}
 use Rattle.refusal.specs.declared.Refusal.TheVariants.{OutsideLimits, BufferTooShort, EmptySummary}
 use Rattle.refusal.specs.declared.Verdict.{Verdict}
 use Rattle.refusal.specs.declared.Verdict.TheVariants as verdict
 use Rattle.refusal.specs.First.{Test, ◌gives◌, first_of}
-use Rattle.packing.specs.declared.PackingAnswer.{PackingAnswer}
-use Rattle.packing.specs.declared.PackingAnswer.TheVariants as packing
+use Rattle.packing.specs.declared.PackedPosting.{PackedPosting}
 use Rattle.packing.specs.Packing as range
 use Rattle.blocking.specs.Limits.{block_limit, dimension_limit}
 use Rattle.configuration.specs.declared.SummarizationStrategy.{SummarizationStrategy}
@@ -26,9 +26,9 @@ use Rattle.build_sizes.specs.declared.OutputLengths.{OutputLengths}
 
 -- ---- the result, from the documents in block order and the block offsets
 -- a document's range in one number; 0 for one that cannot be packed
-abbrev pub packed_number : PackingAnswer → ℕ
-packed_number (packing.Packed p) = p.0
-packed_number (packing.Refused r) = 0
+abbrev pub packed_number : Result PackedPosting Refusal → ℕ
+packed_number (Ok p) = p.0
+packed_number (Err r) = 0
 
 abbrev pub posting_of : Documents → ℕ → ℕ
 posting_of d i = packed_number (range.packed (start d i) (start d i + size d i))

@@ -1,15 +1,15 @@
 -- Packing: document 01, "Leaves first". The limits and the place of the two parts stand here and nowhere else; other crates go by
 -- Laws/Packing.
-use Rattle.std.specs.Prelude.{ℕ, ◌+◌, ◌-◌, ◌*◌, ◌/◌, ◌%◌, ◌^◌, List, [], ◌∷◌, ◌⊎◌, leb, ltb}
+use Rattle.std.specs.Prelude.{ℕ, ◌+◌, ◌-◌, ◌*◌, ◌/◌, ◌%◌, ◌^◌, List, [], ◌∷◌, ◌⊎◌, leb, ltb, Result, Ok, Err}
 use Rattle.std.proofs.Common.{inl, inr}
+use Rattle.refusal.specs.declared.Refusal.{Refusal}
 use Rattle.refusal.specs.declared.Refusal.TheVariants.{StartTooLarge, RangeTooLong}
 use Rattle.refusal.specs.declared.Verdict.{Verdict}
 use Rattle.refusal.specs.declared.Verdict.TheVariants as verdict
 use Rattle.refusal.specs.Refusals.{number_of}
 use Rattle.refusal.specs.First.{Test, ◌gives◌, first_of}
 use Rattle.packing.specs.declared.UnpackedRange.{UnpackedRange}
-use Rattle.packing.specs.declared.PackingAnswer.{PackingAnswer}
-use Rattle.packing.specs.declared.PackingAnswer.TheVariants.{Packed, Refused}
+use Rattle.packing.specs.declared.PackedPosting.{PackedPosting}
 
 -- every start is below it
 unfoldable pub start_limit : ℕ
@@ -41,12 +41,12 @@ range_length start end = end - start
 abbrev pub packing_tests : ℕ → ℕ → List Test
 packing_tests start length = (leb start_limit start gives StartTooLarge) ∷ (ltb length_limit length gives RangeTooLong) ∷ []
 
-abbrev pub answered : Verdict → ℕ → PackingAnswer
-answered verdict.Accepted n = Packed (record { 0 = n })
-answered (verdict.Refused r) n = Refused r
+abbrev pub answered : Verdict → ℕ → Result PackedPosting Refusal
+answered verdict.Accepted n = Ok (record { 0 = n })
+answered (verdict.Refused r) n = Err r
 
 -- what packing the range from start to end comes to
-unfoldable pub packed : ℕ → ℕ → PackingAnswer
+unfoldable pub packed : ℕ → ℕ → Result PackedPosting Refusal
 packed start end = answered (first_of (packing_tests start (range_length start end))) (pack_of start (range_length start end))
 
 -- the range of a packed number
@@ -54,6 +54,6 @@ abbrev pub unpacked : ℕ → UnpackedRange
 unpacked n = record { start = record { 0 = start_of n }; length = length_of n; end = start_of n + length_of n }
 
 -- an answer in document 01's terms: the number of the refusal, or the packed number
-abbrev pub in_numbers : PackingAnswer → ℕ ⊎ ℕ
-in_numbers (Refused r) = inl (number_of r)
-in_numbers (Packed p) = inr p.0
+abbrev pub in_numbers : Result PackedPosting Refusal → ℕ ⊎ ℕ
+in_numbers (Err r) = inl (number_of r)
+in_numbers (Ok p) = inr p.0

@@ -11,13 +11,6 @@ use refusal::Refusal;
 #[derive(Clone, Copy)]
 pub struct PackedPosting(pub u64);
 
-// What packing a range comes to.
-#[derive(Drop)]
-pub enum PackingAnswer {
-    Packed(PackedPosting),
-    Refused(Refusal),
-}
-
 // A packed range, taken apart. Its end is its start plus its length.
 #[derive(Drop)]
 pub struct UnpackedRange {
@@ -52,18 +45,18 @@ impl PackedPosting {
 
     // The range from `start` to `end` in one number; an end below its start counts as length 0. Refuses a start at its limit
     // or past it, and then a length above its limit.
-    pub fn pack(start: RangeStart, end: u64) -> PackingAnswer
+    pub fn pack(start: RangeStart, end: u64) -> Result<PackedPosting, Refusal>
         ensures { result ≡ packed start.0 end }
     {
         let at = start.0;
         if at >= PackedPosting::START_LIMIT {
-            return PackingAnswer::Refused(Refusal::StartTooLarge);
+            return Err(Refusal::StartTooLarge);
         }
         let length = range_length(start, end);
         if length > PackedPosting::LENGTH_LIMIT {
-            return PackingAnswer::Refused(Refusal::RangeTooLong);
+            return Err(Refusal::RangeTooLong);
         }
-        PackingAnswer::Packed(PackedPosting(at * PackedPosting::START_WEIGHT + length))
+        Ok(PackedPosting(at * PackedPosting::START_WEIGHT + length))
     }
 
     // The range that was packed: of any number, since each is the pack of some range.

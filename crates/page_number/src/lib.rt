@@ -8,13 +8,6 @@ ghost use Rattle.page_number.specs.Answers.{page_number, Found};
 use number_types::{DocumentId, RangeStart};
 use refusal::Refusal;
 
-// The document that a start belongs to, or the refusal: 6 or 15.
-#[derive(Drop)]
-pub enum PageNumber {
-    Document(DocumentId),
-    Refused(Refusal),
-}
-
 // The first place, below an end, whose offset is not below a start; the end where there is none. The offsets never fall, so that it
 // halves what is left at each step.
 fn first_from(offsets: &[u64], start: RangeStart, count: usize) -> usize
@@ -36,20 +29,21 @@ fn first_from(offsets: &[u64], start: RangeStart, count: usize) -> usize
 }
 
 // The smallest document whose start is the asked one, for any offsets whose first is 0 and that never fall: the last one, where no
-// document starts, need not be the number of terms. One pass to check the offsets, then a binary search.
-pub fn page_number(offsets: &[u64], start: RangeStart) -> PageNumber
+// document starts, need not be the number of terms. Refuses other offsets (6), and then a start that no document has (15). One pass
+// to check the offsets, then a binary search.
+pub fn page_number(offsets: &[u64], start: RangeStart) -> Result<DocumentId, Refusal>
     ensures { result ≡ page_number offsets.now start.0 }
 {
     if !document_checks::offsets_hold_free(offsets) {
-        return PageNumber::Refused(Refusal::WrongDocuments);
+        return Err(Refusal::WrongDocuments);
     }
     let asked = start.0;
     let count = offsets.len() - 1;
     let at = first_from(offsets, start, count);
     if at < count {
         if offsets[at] == asked {
-            return PageNumber::Document(DocumentId(at as u64));
+            return Ok(DocumentId(at as u64));
         }
     }
-    PageNumber::Refused(Refusal::NoSuchStart)
+    Err(Refusal::NoSuchStart)
 }

@@ -2,13 +2,14 @@
 -- of least and greatest, for every accepted list whose step is at least 2 ^ -126. Every rounding is in it.
 -- It says so of what `quantize` answers and leaves in the lent codes, over whole numbers. This file is the statement; `demand-3` of
 -- Promises proves it.
-use Rattle.std.specs.Prelude.{ℕ, ◌+◌, ◌-◌, ◌*◌, ◌≤◌, ◌<◌, max, ◌≡◌, false, List, length, get_or, negsuc, T, Float}
+use Rattle.std.specs.Prelude.{ℕ, ◌+◌, ◌-◌, ◌*◌, ◌≤◌, ◌<◌, max, ◌≡◌, false, List, length, get_or, negsuc, T, Float, Result}
 use Rattle.std.proofs.Common.{inr}
 use Rattle.std.specs.Float.{nan, fin, binary32}
 use Rattle.std.specs.Float.Ieee.{fits, le}
 use Rattle.std.specs.Float.Ieee.Scale.{finite}
+use Rattle.refusal.specs.declared.Refusal.{Refusal}
 use Rattle.float32.specs.Units.{mag, above, below}
-use Rattle.quantizing.specs.declared.Quantized.{Quantized}
+use Rattle.quantizing.specs.declared.Scale.{Scale}
 use Rattle.quantizing.specs.Quantizing.{greatest, read_back, left, quantized, in_numbers}
 
 -- A finite f32 is a whole number of units of 2 ^ -149. `mag x` is how many units x is away from zero, on either side;
@@ -40,7 +41,7 @@ least_step = fin false 1 (negsuc 125)
 -- `in_numbers answer ≡ inr (low, step)` says that it did not refuse, but gave the least value and the step
 abbrev pub Demand3 : Type 0
 Demand3 =
-    (values : List Float) (lent codes : List ℕ) (answer : Quantized) (low step : Float)
+    (values : List Float) (lent codes : List ℕ) (answer : Result Scale Refusal) (low step : Float)
     → F32s values
     → left answer codes ≡ quantized values lent
     → in_numbers answer ≡ inr (low, step)

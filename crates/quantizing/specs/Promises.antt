@@ -1,6 +1,6 @@
 -- What quantizing promises, with no word on code: which answer is given when, in document 01's numbers, and what holds of every accepted
 -- list.
-use Rattle.std.specs.Prelude.{◌≡◌, refl, true, false, ◌⊎◌, List, ◌++◌, map, ℕ, ◌+◌, ◌-◌, ◌*◌, ◌^◌, ◌≤◌, ◌<◌, length, get_or, drop, pos, T, Float}
+use Rattle.std.specs.Prelude.{◌≡◌, refl, true, false, ◌⊎◌, List, ◌++◌, map, ℕ, ◌+◌, ◌-◌, ◌*◌, ◌^◌, ◌≤◌, ◌<◌, length, get_or, drop, pos, T, Float, Result}
 use Rattle.std.proofs.Common.{sym, ◌∙◌, subst, inl, inr, arith, get_or-append-add, get_or-drop, eq-eqb, ne_eqb, lt-ltb, le-ltb}
 use Rattle.std.proofs.Math.Path.{ap}
 use Rattle.std.proofs.lemmas.List.{length-map}
@@ -9,6 +9,7 @@ use Rattle.std.specs.Float.{nan, fin, binary32}
 use Rattle.std.specs.Float.Ieee.{fits, le, eq, sub, div, of_int}
 use Rattle.std.specs.Float.Ieee.Fits.{and_l}
 use Rattle.std.specs.Float.Ieee.Scale.{finite}
+use Rattle.refusal.specs.declared.Refusal.{Refusal}
 use Rattle.refusal.specs.declared.Refusal.TheVariants.{EmptySummary, WrongTerms, BufferTooShort}
 use Rattle.refusal.specs.declared.Verdict.{Verdict}
 use Rattle.refusal.specs.declared.Verdict.TheVariants.{Accepted, Refused}
@@ -23,7 +24,7 @@ use Rattle.float32.specs.Sums.{Within}
 use Rattle.float32.specs.Laws.Sums.{within-finite, read-back-within}
 use Rattle.float32.specs.Laws.Tests.{is_true, yes}
 use Rattle.float32.specs.Units.{above, below, Ordered}
-use Rattle.quantizing.specs.declared.Quantized.{Quantized}
+use Rattle.quantizing.specs.declared.Scale.{Scale}
 use Rattle.quantizing.specs.Accepted.{Quantizable}
 use Rattle.quantizing.specs.Laws.Accepted.{answered}
 use Rattle.quantizing.specs.Demand3.{Demand3, Drifts, F32s, allowance, least_step}
@@ -84,7 +85,7 @@ past low step values lent k =
     ∙ get_or-append-add (map f values) (drop (length values) lent) k 0
     ∙ get_or-drop (length values) lent k 0
 
-pub each-code : (values : List Float) (lent codes : List ℕ) (answer : Quantized) (low step : Float) → left answer codes ≡ quantized values lent → in_numbers answer ≡ inr (low, step)
+pub each-code : (values : List Float) (lent codes : List ℕ) (answer : Result Scale Refusal) (low step : Float) → left answer codes ≡ quantized values lent → in_numbers answer ≡ inr (low, step)
     → EachCode values lent codes low step
 each-code values lent codes answer low step e s =
     let a = answered values lent codes answer low step e s in

@@ -1,8 +1,9 @@
 -- Document 01, "Quantizing": values of a summary as one byte each. Every operation is an f32 operation and rounds once.
-use Rattle.std.specs.Prelude.{ℕ, Bool, false, not, ◌&&◌, ◌⊎◌, List, [], ◌∷◌, ◌++◌, map, length, drop, pos, ltb, eqb, Float}
+use Rattle.std.specs.Prelude.{ℕ, Bool, false, not, ◌&&◌, ◌⊎◌, List, [], ◌∷◌, ◌++◌, map, length, drop, pos, ltb, eqb, Float, Result, Ok, Err}
 use Rattle.std.proofs.Common.{inl, inr}
 use Rattle.std.specs.Float.{nan, fin, binary32}
 use Rattle.std.specs.Float.Ieee.{add, sub, mul, div, of_int, le}
+use Rattle.refusal.specs.declared.Refusal.{Refusal}
 use Rattle.refusal.specs.declared.Refusal.TheVariants.{EmptySummary, WrongTerms, BufferTooShort}
 use Rattle.refusal.specs.declared.Verdict.{Verdict}
 use Rattle.refusal.specs.declared.Verdict.TheVariants.{Accepted, Refused}
@@ -13,8 +14,7 @@ use Rattle.float32.specs.Order.{at_most}
 use Rattle.float32.specs.Bound.{in_bound}
 use Rattle.float32.specs.Rounding.{byte_of}
 use Rattle.quantizing.specs.declared.Extent.{Extent}
-use Rattle.quantizing.specs.declared.Quantized.{Quantized}
-use Rattle.quantizing.specs.declared.Quantized.TheVariants as answer
+use Rattle.quantizing.specs.declared.Scale.{Scale}
 
 -- ---- least and greatest by total order
 -- the first of those that are at most each value
@@ -56,23 +56,26 @@ tests values codes =
     ∷ (ltb (length codes) (length values) gives BufferTooShort)
     ∷ []
 
+abbrev pub scale : Float → Float → Scale
+scale low step = record { least = low; step = step }
+
 -- what quantizing answers, and what it leaves in the lent codes
 pub record Left : Type 0 where
-  pub answer : Quantized
+  pub answer : Result Scale Refusal
   pub codes : List ℕ
 
-abbrev pub left : Quantized → List ℕ → Left
+abbrev pub left : Result Scale Refusal → List ℕ → Left
 left a c = record { answer = a; codes = c }
 
 -- an answer in document 01's terms: the number of the refusal, or the least value and the step
-abbrev pub in_numbers : Quantized → ℕ ⊎ (Float × Float)
-in_numbers (answer.Refused reason) = inl (number_of reason)
-in_numbers (answer.Summary low step) = inr (low, step)
+abbrev pub in_numbers : Result Scale Refusal → ℕ ⊎ (Float × Float)
+in_numbers (Err reason) = inl (number_of reason)
+in_numbers (Ok s) = inr (s.least, s.step)
 
 -- a refusal changes nothing; else the codes stand first, and past them nothing changes
 abbrev pub by : Verdict → List Float → List ℕ → Left
-by (Refused reason) values codes = left (answer.Refused reason) codes
-by Accepted values codes = left (answer.Summary (least values) (step_for values)) (codes_for values ++ drop (length values) codes)
+by (Refused reason) values codes = left (Err reason) codes
+by Accepted values codes = left (Ok (scale (least values) (step_for values))) (codes_for values ++ drop (length values) codes)
 
 unfoldable pub quantized : List Float → List ℕ → Left
 quantized values codes = by (first_of (tests values codes)) values codes

@@ -7,11 +7,11 @@ ghost use Rattle.quantizing.specs.Quantizing.{extent_of, step_of, code_of, read_
 use cells::{greater_u32, smaller_u32};
 use refusal::Refusal;
 
-// What quantizing answers: why it refuses, or the least value and the step.
+// What the codes of quantized values count by: the least value, and the step from one code to the next.
 #[derive(Drop)]
-pub enum Quantized {
-    Refused(Refusal),
-    Summary { least: f32, step: f32 },
+pub struct Scale {
+    pub least: f32,
+    pub step: f32,
 }
 
 // The least and the greatest of some values by total order, where -0 is below +0 and a NaN above all.
@@ -84,11 +84,11 @@ fn encode(values: &[f32], least: f32, step: f32, codes: &mut [u8])
 // Quantizes the values: their codes go into the first places of `codes`, which is lent, and past them nothing changes.
 // Refuses no values (7), a value that is not finite or above 2^32 in magnitude (14), and codes that are fewer than the values (4),
 // in this order; then nothing changes. Two passes over the values.
-pub fn quantize(values: &[f32], codes: &mut [u8]) -> Quantized
+pub fn quantize(values: &[f32], codes: &mut [u8]) -> Result<Scale, Refusal>
     ensures { left result codes.new ≡ quantized values.now codes.old }
 {
     if values.len() == 0 {
-        return Quantized::Refused(Refusal::EmptySummary);
+        return Err(Refusal::EmptySummary);
     }
     let e = extent_of(values);
     let least = e.least;
@@ -96,11 +96,11 @@ pub fn quantize(values: &[f32], codes: &mut [u8]) -> Quantized
     let ok = float32::in_bound(least) & float32::in_bound(greatest);
     if ok {
         if codes.len() < values.len() {
-            return Quantized::Refused(Refusal::BufferTooShort);
+            return Err(Refusal::BufferTooShort);
         }
         let step = step_of(least, greatest);
         encode(values, least, step, codes);
-        return Quantized::Summary { least, step };
+        return Ok(Scale { least, step });
     }
-    Quantized::Refused(Refusal::WrongTerms)
+    Err(Refusal::WrongTerms)
 }

@@ -1,4 +1,5 @@
 -- What a call's answer and its buffers come to, over plain variables.
+use Rattle.std.specs.Prelude.{Result}
 use Prim.Native.Nat.{ℕ}
 use mathlib.Core.Path.{◌≡◌, ap, ◌∙◌}
 use mathlib.Core.Bool.{Bool, ◌&&◌}
@@ -6,16 +7,15 @@ use mathlib.Core.List.{List, map}
 use lib.ListN.{length, get_or, replicate}
 use lib.Dec.{eqb}
 use lib.Ieee.{Float}
+use Rattle.refusal.specs.declared.Refusal.{Refusal}
 use Rattle.refusal.specs.declared.Verdict.{Verdict}
 use Rattle.refusal.specs.Refusals.{verdict_number}
 use Rattle.float32.specs.Key.{key_of, value_of}
 use Rattle.float32.specs.Laws.KeyLaws.{key-of-nan}
-use Rattle.packing.specs.declared.PackingAnswer.{PackingAnswer}
+use Rattle.packing.specs.declared.PackedPosting.{PackedPosting}
 use Rattle.packing.specs.Packing.{packed}
-use Rattle.blocking.specs.declared.BlockingAnswer.{BlockingAnswer}
 use Rattle.blocking.specs.Blocking.{blocked, offsets_left}
-use Rattle.quantizing.specs.declared.Quantized.{Quantized}
-use Rattle.quantizing.specs.declared.Quantized.TheVariants.{Summary}
+use Rattle.quantizing.specs.declared.Scale.{Scale}
 use Rattle.quantizing.specs.Quantizing.{left, quantized}
 use Rattle.kept_list.specs.declared.Scored.{Scored}
 use Rattle.kept_list.specs.Entry.{scored}
@@ -25,20 +25,17 @@ use Rattle.replay_words.specs.Words.{long, slice_at, spread, itself}
 use Rattle.replay_expected.specs.Held.{held}
 use Rattle.replay_leaves.specs.Case.{is_packed, is_written, is_summary, quantized_as, pushed_as, packs_agree, blocks_agree, quantizes_agree, pushes_agree}
 
-pub packs-by : (w : List ℕ) {a : PackingAnswer} {start end n : ℕ} {r : Bool} → start ≡ long w 1 → end ≡ long w 3 → a ≡ packed start end → n ≡ long w 5 → r ≡ is_packed a n → r ≡ packs_agree w
+pub packs-by : (w : List ℕ) {a : Result PackedPosting Refusal} {start end n : ℕ} {r : Bool} → start ≡ long w 1 → end ≡ long w 3 → a ≡ packed start end → n ≡ long w 5 → r ≡ is_packed a n → r ≡ packs_agree w
 unfolding packs_agree
 packs-by w p q e x r = r ∙ rw (e, p, q, x)
 
-pub blocks-by : (w : List ℕ) {a : BlockingAnswer} {ids size : ℕ} {offsets wanted : List ℕ} {r s : Bool}
+pub blocks-by : (w : List ℕ) {a : Result ℕ Refusal} {ids size : ℕ} {offsets wanted : List ℕ} {r s : Bool}
     → ids ≡ get_or w 1 0 → size ≡ get_or w 2 0 → (a ≡ blocked ids size (replicate 256 7)) × (offsets ≡ offsets_left ids size (replicate 256 7)) → wanted ≡ slice_at w 3 w
     → r ≡ is_written a (length wanted) → s ≡ held offsets wanted 7 → r && s ≡ blocks_agree w
 unfolding blocks_agree
 blocks-by w p q e x r s = rw (r, s, e.0, e.1, x, p, q)
 
-pub summary-by : (a : Quantized) (lk sk : ℕ) {least step : Float} {x y : ℕ} → a ≡ Summary least step → x ≡ key_of least → y ≡ key_of step → eqb x lk && eqb y sk ≡ is_summary a lk sk
-summary-by a lk sk e p q = rw (e, p, q)
-
-pub quantizes-by : (w : List ℕ) {a : Quantized} {floats values : List Float} {codes wanted : List ℕ} {least step : ℕ} {r s : Bool}
+pub quantizes-by : (w : List ℕ) {a : Result Scale Refusal} {floats values : List Float} {codes wanted : List ℕ} {least step : ℕ} {r s : Bool}
     → floats ≡ spread value_of 1024 w → values ≡ slice_at w 3 floats → left a codes ≡ quantized values (replicate 64 9)
     → least ≡ get_or w 1 0 → step ≡ get_or w 2 0 → wanted ≡ slice_at w 4 w
     → r ≡ is_summary a least step → s ≡ held codes wanted 9 → r && s ≡ quantizes_agree w

@@ -1,17 +1,17 @@
 -- Recorded packing, blocking, quantizing and pushing: whether what the call means is what was recorded. src/lib.rt says which word is
 -- which.
-use Rattle.std.specs.Prelude.{ℕ, Bool, false, ◌&&◌, ◌⊎◌, List, map, length, get_or, replicate, eqb}
+use Rattle.std.specs.Prelude.{ℕ, Bool, false, ◌&&◌, ◌⊎◌, List, map, length, get_or, replicate, eqb, Result}
 use Rattle.std.proofs.Common.{inl, inr}
 use Rattle.std.specs.Float.{nan}
+use Rattle.refusal.specs.declared.Refusal.{Refusal}
 use Rattle.refusal.specs.Refusals.{verdict_number}
 use Rattle.float32.specs.Key.{key_of, value_of}
-use Rattle.packing.specs.declared.PackingAnswer.{PackingAnswer}
+use Rattle.packing.specs.declared.PackedPosting.{PackedPosting}
 use Rattle.packing.specs.Packing as packing
 use Rattle.packing.specs.Packing.{packed}
-use Rattle.blocking.specs.declared.BlockingAnswer.{BlockingAnswer}
 use Rattle.blocking.specs.Blocking as blocking
 use Rattle.blocking.specs.Blocking.{blocked, offsets_left}
-use Rattle.quantizing.specs.declared.Quantized.{Quantized}
+use Rattle.quantizing.specs.declared.Scale.{Scale}
 use Rattle.quantizing.specs.Quantizing as quantizing
 use Rattle.quantizing.specs.Quantizing.{quantized}
 use Rattle.kept_list.specs.Entry.{scored}
@@ -27,25 +27,25 @@ gives p (inl n) = false
 gives p (inr x) = p x
 
 -- ---- packing
-abbrev pub is_packed : PackingAnswer → ℕ → Bool
+abbrev pub is_packed : Result PackedPosting Refusal → ℕ → Bool
 is_packed answer number = gives (λ n. eqb n number) (packing.in_numbers answer)
 
 unfoldable pub packs_agree : List ℕ → Bool
 packs_agree w = is_packed (packed (long w 1) (long w 3)) (long w 5)
 
 -- ---- blocking, into a buffer that holds 7 everywhere
-abbrev pub is_written : BlockingAnswer → ℕ → Bool
+abbrev pub is_written : Result ℕ Refusal → ℕ → Bool
 is_written answer count = gives (λ n. eqb n count) (blocking.in_numbers answer)
 
 -- as many offsets as recorded, these in front, and past them what was there before
-abbrev pub blocked_as : List ℕ → BlockingAnswer → List ℕ → Bool
+abbrev pub blocked_as : List ℕ → Result ℕ Refusal → List ℕ → Bool
 blocked_as w answer offsets = is_written answer (length (slice_at w 3 w)) && held offsets (slice_at w 3 w) 7
 
 unfoldable pub blocks_agree : List ℕ → Bool
 blocks_agree w = blocked_as w (blocked (get_or w 1 0) (get_or w 2 0) (replicate 256 7)) (offsets_left (get_or w 1 0) (get_or w 2 0) (replicate 256 7))
 
 -- ---- quantizing, into codes that are 9 everywhere
-abbrev pub is_summary : Quantized → ℕ → ℕ → Bool
+abbrev pub is_summary : Result Scale Refusal → ℕ → ℕ → Bool
 is_summary answer least step = gives (λ z. eqb (key_of z.0) least && eqb (key_of z.1) step) (quantizing.in_numbers answer)
 
 unfoldable pub quantized_as : List ℕ → quantizing.Left → Bool

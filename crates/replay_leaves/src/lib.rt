@@ -4,43 +4,34 @@
 ghost use Rattle.std.specs.Prelude.{◌≡◌};
 ghost use Rattle.replay_leaves.specs.Case.{is_packed, is_written, is_summary, packs_agree, blocks_agree, quantizes_agree, pushes_agree};
 
-use blocking::BlockingAnswer;
 use kept_list::Scored;
 use number_types::RangeStart;
-use packing::{PackedPosting, PackingAnswer};
-use quantizing::Quantized;
+use packing::PackedPosting;
+use quantizing::Scale;
+use refusal::Refusal;
 use replay_words::{float, long, word, words_of};
 
 // Whether a range was packed, and into this number.
-fn is_packed(answer: PackingAnswer, number: u64) -> bool
+fn is_packed(answer: Result<PackedPosting, Refusal>, number: u64) -> bool
     ensures { result ≡ is_packed answer number }
 {
-    match answer {
-        PackingAnswer::Packed(p) => p.0 == number,
-        PackingAnswer::Refused(_) => false,
-    }
+    answer.is_ok_and(|p| p.0 == number)
 }
 
 // Whether offsets were written, and so many.
-fn is_written(answer: BlockingAnswer, count: u64) -> bool
+fn is_written(answer: Result<u64, Refusal>, count: u64) -> bool
     ensures { result ≡ is_written answer count }
 {
-    match answer {
-        BlockingAnswer::Written(n) => n == count,
-        BlockingAnswer::Refused(_) => false,
-    }
+    answer.is_ok_and(|n| n == count)
 }
 
 // Whether values were quantized, with the least value and the step of these keys.
-fn is_summary(answer: Quantized, least_key: u32, step_key: u32) -> bool
+fn is_summary(answer: Result<Scale, Refusal>, least_key: u32, step_key: u32) -> bool
     ensures { result ≡ is_summary answer least_key step_key }
 {
-    match answer {
-        Quantized::Summary { least, step } => {
-            (float32::key(least) == least_key) & (float32::key(step) == step_key)
-        }
-        Quantized::Refused(_) => false,
-    }
+    answer.is_ok_and(|scale| {
+        (float32::key(scale.least) == least_key) & (float32::key(scale.step) == step_key)
+    })
 }
 
 // Whether a range is packed as recorded. 1, 2: start; 3, 4: end; 5, 6: the packed number.

@@ -6,7 +6,6 @@ use build_meaning::BuildAnswer;
 use configuration::{BlockingStrategy, SummarizationStrategy};
 use explain::{Fate, TurnSeen};
 use packing::PackedPosting;
-use page_number::PageNumber;
 use search_probe::Answer;
 use std::io;
 
@@ -103,7 +102,7 @@ fn say_kept(
     posting: PackedPosting,
     score: f32,
 ) -> io::Result<()> {
-    if let PageNumber::Document(id) = page_number::page_number(offsets, posting.unpack().start) {
+    if let Ok(id) = page_number::page_number(offsets, posting.unpack().start) {
         say_page(rt, id.0, score)?;
         println!(rt; "")?;
     }

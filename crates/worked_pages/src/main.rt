@@ -2,11 +2,9 @@
 // crates/worked_cases/specs/Laws/Pages.antt, and then those that are only to be run.
 #![tactic(auto)]
 
-use blocking::BlockingAnswer;
 use kept_list::Scored;
 use number_types::RangeStart;
-use packing::{PackedPosting, PackingAnswer};
-use quantizing::Quantized;
+use packing::PackedPosting;
 use refusal::{Refusal, Verdict};
 use search_probe::Answer;
 use std::io;
@@ -64,11 +62,11 @@ fn add_readings(rt: &impl Print, least: f32, step: f32, codes: &[u8]) -> io::Res
 fn pack(rt: &impl Print, asked: &str, start: RangeStart, end: u64) -> io::Result<()> {
     say(rt, asked)?;
     match PackedPosting::pack(start, end) {
-        PackingAnswer::Packed(p) => {
+        Ok(p) => {
             let number = p.0;
             println!(rt; "packs to {number}")
         }
-        PackingAnswer::Refused(reason) => say_refusal(rt, reason),
+        Err(reason) => say_refusal(rt, reason),
     }
 }
 
@@ -76,27 +74,27 @@ fn block(rt: &impl Print, asked: &str, ids: u64, block_size: u64) -> io::Result<
     say(rt, asked)?;
     let mut offsets = [0u64; 8];
     match blocking::fixed_size_blocking(ids, block_size, &mut offsets) {
-        BlockingAnswer::Written(n) => {
+        Ok(n) => {
             say(rt, "gives offsets")?;
             add_numbers(rt, &offsets, n)?;
             say(rt, "\n")
         }
-        BlockingAnswer::Refused(reason) => say_refusal(rt, reason),
+        Err(reason) => say_refusal(rt, reason),
     }
 }
 
 fn quantize(rt: &impl Print, asked: &str, values: &[f32], codes: &mut [u8]) -> io::Result<()> {
     say(rt, asked)?;
     match quantizing::quantize(values, codes) {
-        Quantized::Summary { least, step } => {
-            let shown = whole(step);
+        Ok(scale) => {
+            let shown = whole(scale.step);
             print!(rt; "step {shown}, codes")?;
             add_codes(rt, codes)?;
             say(rt, ", read back")?;
-            add_readings(rt, least, step, codes)?;
+            add_readings(rt, scale.least, scale.step, codes)?;
             say(rt, "\n")
         }
-        Quantized::Refused(reason) => say_refusal(rt, reason),
+        Err(reason) => say_refusal(rt, reason),
     }
 }
 
@@ -109,7 +107,7 @@ fn push(
     score: f32,
     start: RangeStart,
 ) -> io::Result<()> {
-    if let PackingAnswer::Packed(p) = PackedPosting::pack(start, start.0) {
+    if let Ok(p) = PackedPosting::pack(start, start.0) {
         let e = Scored::new(p.0, score);
         if let Verdict::Refused(reason) = kept_push::push(2, length, packed, scores, e) {
             say_refusal(rt, reason)?;

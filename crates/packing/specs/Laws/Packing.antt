@@ -1,10 +1,9 @@
 -- Laws of Packing, by which every other crate knows packed numbers.
-use Rattle.std.specs.Prelude.{ℕ, suc, ◌+◌, ◌-◌, ◌≤◌, ◌<◌, ◌^◌, ◌≡◌, Bool, ◌&&◌, ◌||◌, ◌⊎◌, leb, ltb, eqb}
+use Rattle.std.specs.Prelude.{ℕ, suc, ◌+◌, ◌-◌, ◌≤◌, ◌<◌, ◌^◌, ◌≡◌, Bool, ◌&&◌, ◌||◌, ◌⊎◌, leb, ltb, eqb, Ok, Err}
 use Rattle.std.proofs.Common.{sym, ap, ◌∙◌, inl, inr, arith, lt-ltb, le-ltb, le-leb, eq-eqb, ne_eqb}
 use Rattle.std.proofs.Math.Decide.{dec_le, ℕ_discrete}
 use Rattle.std.proofs.lemmas.Bool.{lt-leb}
 use Rattle.refusal.specs.declared.Refusal.TheVariants.{StartTooLarge, RangeTooLong}
-use Rattle.packing.specs.declared.PackingAnswer.TheVariants.{Packed, Refused}
 use Rattle.packing.specs.Packing.{start_limit, length_limit, pack_of, start_of, length_of, range_length, packed}
 
 -- ---- a packed number's parts
@@ -111,20 +110,20 @@ packed-strictly m n = go (starts m n)
     go (inr (inr h)) = let l : n < m = smaller-start n m h in simp (le-ltb (start_of m) (start_of n) (omega arith), ne_eqb (start_of m) (start_of n) (λ e. omega arith), le-ltb m n (omega arith))
 
 -- ---- which of the three answers is given
-pub start-refused : (start end : ℕ) → start_limit ≤ start → packed start end ≡ Refused StartTooLarge
+pub start-refused : (start end : ℕ) → start_limit ≤ start → packed start end ≡ Err StartTooLarge
 unfolding packed
 start-refused start end h = simp (le-leb _ _ h)
 
-pub length-refused : (start end : ℕ) → start < start_limit → length_limit < range_length start end → packed start end ≡ Refused RangeTooLong
+pub length-refused : (start end : ℕ) → start < start_limit → length_limit < range_length start end → packed start end ≡ Err RangeTooLong
 unfolding packed
 length-refused start end h l = simp (lt-leb _ _ h, lt-ltb _ _ l)
 
-pub range-packed : (start end : ℕ) → start < start_limit → range_length start end ≤ length_limit → packed start end ≡ Packed (record { 0 = pack_of start (range_length start end) })
+pub range-packed : (start end : ℕ) → start < start_limit → range_length start end ≤ length_limit → packed start end ≡ Ok (record { 0 = pack_of start (range_length start end) })
 unfolding packed
 range-packed start end h l = simp (lt-leb _ _ h, le-ltb _ _ l)
 
 -- a range given by its start and its length
-pub packs-length : (start length : ℕ) → start < start_limit → length ≤ length_limit → packed start (start + length) ≡ Packed (record { 0 = pack_of start length })
+pub packs-length : (start length : ℕ) → start < start_limit → length ≤ length_limit → packed start (start + length) ≡ Ok (record { 0 = pack_of start length })
 packs-length start length h l = range-packed start (start + length) h (rw same l) ∙ rw same
   where
     same : start + length - start ≡ length

@@ -1,5 +1,5 @@
 -- The page number by a place in the offsets.
-use Rattle.std.specs.Prelude.{ℕ, zero, suc, ◌+◌, ◌≤◌, ◌<◌, ◌≡◌, refl, Bool, true, false, cond, length, get_or}
+use Rattle.std.specs.Prelude.{ℕ, zero, suc, ◌+◌, ◌≤◌, ◌<◌, ◌≡◌, refl, Bool, true, false, cond, length, get_or, Ok, Err}
 use Rattle.std.proofs.Common.{arith, ap, ◌∙◌}
 use Rattle.std.proofs.Math.Decide.{dec_le}
 use mathlib.Core.List.{List, [], ◌∷◌}
@@ -7,7 +7,6 @@ use Rattle.std.proofs.Math.Dec.{eqb}
 use borrow.Author.Tests.{eq-eqb, ne_eqb, eqb-true, eqb-false}
 use Rattle.sequences.specs.Lists.{those, from}
 use Rattle.refusal.specs.declared.Refusal.TheVariants.{WrongDocuments, NoSuchStart}
-use Rattle.page_number.specs.declared.PageNumber.TheVariants.{Document, Refused}
 use Rattle.documents.specs.Documents.{count, starting_at}
 use Rattle.documents.specs.Checks.{offsets_hold_free}
 use Rattle.page_number.specs.Answers.{page_number, Found}
@@ -38,21 +37,21 @@ pub other : (a b : ℕ) → a ≤ b → (b ≡ a → ⊥) → a < b
 other a b h n = omega arith
 
 module _ (os : List ℕ) (s : ℕ) where
-  pub page-refused : offsets_hold_free os ≡ false → Refused WrongDocuments ≡ page_number os s
+  pub page-refused : offsets_hold_free os ≡ false → Err WrongDocuments ≡ page_number os s
   unfolding page_number
   page-refused h = rw h
 
   -- the first offset that is the asked start is that of the asked document
-  pub page-found : (i : ℕ) → offsets_hold_free os ≡ true → i < count os → get_or os i 0 ≡ s → ((k : ℕ) → k < i → get_or os k 0 ≡ s → ⊥) → Document (record { 0 = i }) ≡ page_number os s
+  pub page-found : (i : ℕ) → offsets_hold_free os ≡ true → i < count os → get_or os i 0 ≡ s → ((k : ℕ) → k < i → get_or os k 0 ≡ s → ⊥) → Ok (record { 0 = i }) ≡ page_number os s
   unfolding page_number starting_at
   page-found i h l e below =
       let r = those-first (λ k. eqb (get_or os k 0) s) 0 (count os) i (omega arith) (omega arith) (eq-eqb (get_or os i 0) s e) (λ k x y. ne_eqb (get_or os k 0) s (below k y)) in
       go r.0 r.1
     where
-      go : (rest : List ℕ) → those (λ k. eqb (get_or os k 0) s) (from 0 (count os)) ≡ i ∷ rest → Document (record { 0 = i }) ≡ page_number os s
+      go : (rest : List ℕ) → those (λ k. eqb (get_or os k 0) s) (from 0 (count os)) ≡ i ∷ rest → Ok (record { 0 = i }) ≡ page_number os s
       go rest q = rw (h, q, ne_eqb (suc (length rest)) 0 (λ z. omega arith))
 
-  pub page-none : offsets_hold_free os ≡ true → ((k : ℕ) → k < count os → get_or os k 0 ≡ s → ⊥) → Refused NoSuchStart ≡ page_number os s
+  pub page-none : offsets_hold_free os ≡ true → ((k : ℕ) → k < count os → get_or os k 0 ≡ s → ⊥) → Err NoSuchStart ≡ page_number os s
   unfolding page_number starting_at
   page-none h none =
       let q = those-none (λ k. eqb (get_or os k 0) s) 0 (count os) (λ k x y. ne_eqb (get_or os k 0) s (none k (omega arith))) in

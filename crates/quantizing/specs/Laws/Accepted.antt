@@ -1,14 +1,15 @@
 -- Laws of Accepted: what an answer of `quantize` with a summary says of the list and of the codes that it left.
-use Rattle.std.specs.Prelude.{◌≡◌, refl, Bool, true, false, ◌⊎◌, List, ◌++◌, ℕ, ◌≤◌, ◌<◌, length, drop, Float}
+use Rattle.std.specs.Prelude.{◌≡◌, refl, Bool, true, false, ◌⊎◌, List, ◌++◌, ℕ, ◌≤◌, ◌<◌, length, drop, Float, Result}
 use Rattle.std.proofs.Common.{sym, ap, ◌∙◌, true≢false, inr, arith, ltb-false}
 use Rattle.std.proofs.lemmas.Bool.{eqb-false, not-false}
+use Rattle.refusal.specs.declared.Refusal.{Refusal}
 use Rattle.refusal.specs.declared.Verdict.{Verdict}
 use Rattle.refusal.specs.declared.Verdict.TheVariants.{Accepted, Refused}
 use Rattle.refusal.specs.First.{first_of}
 use Rattle.refusal.specs.Laws.First.{faultless}
 use Rattle.sequences.specs.Lists.{every}
 use Rattle.float32.specs.Bound.{in_bound}
-use Rattle.quantizing.specs.declared.Quantized.{Quantized}
+use Rattle.quantizing.specs.declared.Scale.{Scale}
 use Rattle.quantizing.specs.Quantizing.{least, step_for, codes_for, tests, Left, left, by, quantized, in_numbers}
 use Rattle.quantizing.specs.Accepted.{Quantizable}
 
@@ -19,7 +20,7 @@ pub record Answered (values : List Float) (lent codes : List ℕ) (low step : Fl
   pub step_is : step ≡ step_for values
   pub codes_are : codes ≡ codes_for values ++ drop (length values) lent
 
-pub answered : (values : List Float) (lent codes : List ℕ) (answer : Quantized) (low step : Float) → left answer codes ≡ quantized values lent → in_numbers answer ≡ inr (low, step)
+pub answered : (values : List Float) (lent codes : List ℕ) (answer : Result Scale Refusal) (low step : Float) → left answer codes ≡ quantized values lent → in_numbers answer ≡ inr (low, step)
     → Answered values lent codes low step
 unfolding quantized
 answered values lent codes answer low step e s = go (first_of (tests values lent)) refl e
