@@ -1,9 +1,7 @@
 // The kept list as a lent slice of scored entries.
 #![tactic(auto)]
 
-ghost use Rattle.std.specs.Prelude.{◌≡◌, ◌&&◌, ◌||◌, not, ◌<◌, ◌-◌, ◌+◌, min, ltb, leb, eqb, length as len, get_or};
-ghost use Rattle.std.specs.Float.Ieee.{eq};
-ghost use Rattle.kept_list.specs.Entry.{better};
+ghost use Rattle.std.specs.Prelude.{◌≡◌, ◌<◌, ◌-◌, ◌+◌, min, length as len, get_or};
 ghost use Rattle.kept_list.specs.Lent.{inserted, settled};
 ghost use Rattle.kept_list.specs.Push.{well_kept, left, pushed};
 ghost use Rattle.kept_entries.specs.Entries.{no_entry, as_lent, goes_in};
@@ -29,37 +27,19 @@ pub fn entry(entries: &[Scored], at: usize) -> Scored
     entries[at]
 }
 
-// The place above one, or the first place itself.
-fn above(i: usize) -> usize
-    ensures { result ≡ i - 1 }
-{
-    if i == 0 { 0 } else { i - 1 }
-}
-
-// Whether an entry at a place is to be exchanged with the one above it.
-fn rises(i: usize, e: Scored, over: Scored) -> bool
-    ensures { result ≡ (ltb 0 i && better e over) }
-{
-    (0 < i) & e.better(over)
-}
-
 // The entry is laid down at a place and goes up past the worse ones right above it, exchanged with each.
 pub(crate) fn insert(entries: &mut [Scored], at: usize, e: Scored)
     requires { at < len entries.old }
     ensures { as_lent (at + 1) entries.new ≡ inserted e (as_lent at entries.old) }
 {
     entries[at] = e;
-    let mut i = at;
-    loop {
-        let j = above(i);
+    for j in (0..at).rev() {
         let over = entries[j];
-        if rises(i, e, over) {
-            entries[i] = over;
-            entries[j] = e;
-            i = j;
-        } else {
+        if !e.better(over) {
             return;
         }
+        entries[j + 1] = over;
+        entries[j] = e;
     }
 }
 
@@ -67,8 +47,8 @@ pub(crate) fn insert(entries: &mut [Scored], at: usize, e: Scored)
 fn worst_place(k: u64, room: usize) -> usize
     ensures { result ≡ min (k - 1) (room - 1) }
 {
-    let last = above(k as usize);
-    let end = above(room);
+    let last = (k as usize).saturating_sub(1);
+    let end = room.saturating_sub(1);
     cells::shorter(last, end)
 }
 
@@ -86,7 +66,7 @@ fn place_of(k: u64, length: u64) -> usize
     ensures { result ≡ min length (k - 1) }
 {
     let n = length as usize;
-    let last = above(k as usize);
+    let last = (k as usize).saturating_sub(1);
     cells::shorter(n, last)
 }
 
@@ -109,48 +89,23 @@ pub fn settle(k: u64, length: u64, entries: &mut [Scored], e: Scored) -> u64
     (at + 1) as u64
 }
 
-// Whether so many entries are no more than k and than their slice holds.
-fn is_held(k: u64, length: u64, room: usize) -> bool
-    ensures { result ≡ (leb length k && leb length room) }
-{
-    let n = length as usize;
-    (length <= k) & (n <= room)
-}
-
-// Whether a list may begin with an entry: there is none in it, or its score is no NaN.
-fn begins(length: u64, first: Scored) -> bool
-    ensures { result ≡ (eqb length 0 || eq first.score first.score) }
-{
-    let x = first.score;
-    (length == 0) | (x == x)
-}
-
-// Whether those so far stand best first, and the next one may stand right behind the last of them.
-fn follows(ok: bool, above: Scored, e: Scored) -> bool
-    ensures { result ≡ (ok && not (better e above)) }
-{
-    ok & !e.better(above)
-}
-
 // Whether refusal 12 finds no fault with a kept list: at most k entries, no more than the slice holds, best first, no NaN.
 pub fn is_well_kept(k: u64, length: u64, entries: &[Scored]) -> bool
     ensures { result ≡ well_kept k (as_lent length entries.now) }
 {
-    if !is_held(k, length, entries.len()) {
+    let n = length as usize;
+    if !((length <= k) & (n <= entries.len())) {
         return false;
     }
     let mut above = entry(entries, 0);
-    let mut ok = begins(length, above);
-    let mut i = 1;
-    loop {
-        if (length as usize) <= i {
-            return ok;
-        }
+    let x = above.score;
+    let mut ok = (n == 0) | (x == x);
+    for i in 1..n {
         let e = entry(entries, i);
-        ok = follows(ok, above, e);
+        ok &= !e.better(above);
         above = e;
-        i = i + 1;
     }
+    ok
 }
 
 // What a push answers: how many entries are kept after it, or why it is refused.

@@ -59,8 +59,8 @@ module _ (at : ℕ) (ps₀ : List ℕ) (xs₀ : List Float) (e : Scored) (h : at
   go-start = record {
     as_many = refl;
     as_many_scores = refl;
-    packed = moved_none 0 at ps₀ h;
-    scores = moved_none nan at xs₀ k;
+    packed = moved_none at ps₀;
+    scores = moved_none at xs₀;
     passed = record { within = omega arith; each = λ j l u. absurd (omega arith) };
   }
 

@@ -15,8 +15,7 @@ use Rattle.kept_list.specs.Keep.{keep}
 use Rattle.kept_list.specs.Laws.Pushing.{keep-adds, keep-none, keep-replaces}
 use Rattle.kept_list.specs.Entry.{better}
 use Rattle.kept_list.specs.Laws.Laid.{beside_snoc, length-beside, written_same, settled-in}
-use Rattle.kept_list.specs.declared.Place.{Place}
-use Rattle.kept_list.specs.declared.Place.TheVariants.{At, Nowhere}
+use Rattle.std.specs.Prelude.{Option, Some, None}
 use Rattle.kept_list.specs.Place.{Starts, Placed}
 use Rattle.kept_list.specs.Lent.{Lent, lent, entry_at, entries, written, inserted, places, after, settled}
 
@@ -137,9 +136,9 @@ module _ (k : ℕ) (e : Scored) (n : ℕ) (ps : List ℕ) (xs : List Float) (j :
   }
 
 -- ---- by what was found
-module _ (k : ℕ) (e : Scored) (l : Lent) (p : Place) (h : Placed k e l p) where
-  pub found : (at : ℕ) → p ≡ At at → Starts k e l at
+module _ (k : ℕ) (e : Scored) (l : Lent) (p : Option ℕ) (h : Placed k e l p) where
+  pub found : (at : ℕ) → p ≡ Some at → Starts k e l at
   found at q = rw q at h
 
-  pub found_none : p ≡ Nowhere → l ≡ settled k e l
+  pub found_none : p ≡ None → l ≡ settled k e l
   found_none q = rw q at h

@@ -25,11 +25,8 @@ fn all_fall(from: usize, to: usize, scores: &[f32]) -> bool
     ensures { Fallen from to scores.now result }
 {
     let mut ok = true;
-    let mut i = from;
-    while i < to {
-        let above = i - 1;
-        ok = ok & (scores[i] < scores[above]);
-        i += 1;
+    for i in from..to {
+        ok &= scores[i] < scores[i - 1];
     }
     ok
 }
@@ -40,11 +37,9 @@ fn all_stand(from: usize, to: usize, packed: &[u64], scores: &[f32]) -> bool
     ensures { result ≡ each_from (stands packed.now scores.now) from (to - from) }
 {
     let mut ok = true;
-    let mut i = from;
-    while i < to {
+    for i in from..to {
         let above = entry(i - 1, packed, scores);
-        ok = ok & !entry(i, packed, scores).better(above);
-        i += 1;
+        ok &= !entry(i, packed, scores).better(above);
     }
     ok
 }
@@ -70,6 +65,7 @@ fn is_sound(length: usize, packed: &[u64], scores: &[f32]) -> bool
     let first = scores[0];
     let mut ok = first == first;
     let mut i = 1usize;
+    // no range: the place moves by sixteen, and the rest starts where it ends
     while 16 <= length - i {
         let next = i + 16;
         ok = ok & mostly_fall(i, next, packed, scores);

@@ -2,8 +2,5 @@
 use Rattle.kept_entries.proofs.Rising.{Rising}
 use Rattle.kept_entries.proofs.insert.Given as goal
 
-abbrev pub invariant-loop-over : goal.invariant-loop-over
-invariant-loop-over l = Rising l.at l.fn.entries l.e l.entries l.i
-
-abbrev pub decreases-loop-over : goal.decreases-loop-over
-decreases-loop-over l = l.i
+abbrev pub invariant-loop-j : goal.invariant-loop-j
+invariant-loop-j l = Rising l.at l.fn.entries l.e l.entries l.j

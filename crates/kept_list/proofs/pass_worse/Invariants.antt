@@ -2,8 +2,5 @@
 use Rattle.kept_list.proofs.Placing.{Going}
 use Rattle.kept_list.proofs.pass_worse.Given as goal
 
-abbrev pub invariant-loop-i : goal.invariant-loop-i
-invariant-loop-i l = Going l.at l.initial.packed l.initial.scores l.e l.packed l.scores l.i
-
-abbrev pub decreases-loop-i : goal.decreases-loop-i
-decreases-loop-i l = l.i
+abbrev pub invariant-loop-j : goal.invariant-loop-j
+invariant-loop-j l = Going l.at l.initial.packed l.initial.scores l.e l.packed l.scores l.j

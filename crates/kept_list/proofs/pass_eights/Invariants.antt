@@ -1,9 +1,0 @@
--- `kept_list::pass_eights` meets its contract: what went down so far is worse.
-use Rattle.kept_list.proofs.Placing.{Going}
-use Rattle.kept_list.proofs.pass_eights.Given as goal
-
-abbrev pub invariant-loop-i : goal.invariant-loop-i
-invariant-loop-i l = Going l.at l.initial.packed l.initial.scores l.e l.packed l.scores l.i
-
-abbrev pub decreases-loop-i : goal.decreases-loop-i
-decreases-loop-i l = l.i
