@@ -81,7 +81,7 @@ pub terms-first : (cs : List ℕ) (vs : List Float) → 0 < length cs → length
 terms-first cs [] h e = let z : ⊥ = omega arith in absurd z
 terms-first cs (v ∷ vs) h e = ap (λ t. t && (strictly_rise cs && every in_bound vs)) (in-bound-tests v) ∙ swap (in_bound v) (strictly_rise cs) (every in_bound vs) ∙ sym (slices-apart cs (v ∷ vs) e)
 
-turn : (o g r s b : Bool) → (o && g && r && (s && b)) ≡ (o && ((r && s) && (g && b)))
+turn : (o g r s b : Bool) → (o && (g && r) && (s && b)) ≡ (o && ((r && s) && (g && b)))
 turn false g r s b = refl
 turn true true r true b = ap (λ x. x && b) (sym (and-true r))
 turn true true true false b = refl
@@ -91,7 +91,7 @@ turn true false true false b = refl
 turn true false false s b = refl
 
 pub terms-step : (o : Bool) (cs : List ℕ) (vs : List Float) (i : ℕ) → 1 ≤ i → i < length cs → length cs ≡ length vs
-    → (o && tested (get_or vs i nan) && ltb (get_or cs (i - 1) 0) (get_or cs i 0) && (strictly_rise (drop (i + 1 - 1) cs) && every in_bound (drop (i + 1) vs))) ≡ (o && (strictly_rise (drop (i - 1) cs) && every in_bound (drop i vs)))
+    → (o && (tested (get_or vs i nan) && ltb (get_or cs (i - 1) 0) (get_or cs i 0)) && (strictly_rise (drop (i + 1 - 1) cs) && every in_bound (drop (i + 1) vs))) ≡ (o && (strictly_rise (drop (i - 1) cs) && every in_bound (drop i vs)))
 terms-step o cs vs i p h e =
     let z : i + 1 - 1 ≡ i = omega arith in
     let g : i < length vs = omega arith in

@@ -13,17 +13,12 @@ use number_types::DocumentId;
 pub fn offsets_hold_free(offsets: &[u64]) -> bool
     ensures { result ≡ offsets_hold_free offsets.now }
 {
-    let n = offsets.len();
-    if n == 0 {
+    if offsets.is_empty() {
         return false;
     }
-    let first = offsets[0];
-    let mut ok = first == 0;
-    let mut i = 1usize;
-    while i < n {
-        let p = i - 1;
-        ok = ok & (offsets[p] <= offsets[i]);
-        i += 1;
+    let mut ok = offsets[0] == 0;
+    for i in 1..offsets.len() {
+        ok &= offsets[i - 1] <= offsets[i];
     }
     ok
 }
@@ -36,12 +31,10 @@ pub fn offsets_hold(offsets: &[u64], components: &[u32], values: &[f32]) -> bool
     if n == 0 {
         return false;
     }
-    let last = n - 1;
-    let end = offsets[last];
     if components.len() != values.len() {
         return false;
     }
-    if end != components.len() as u64 {
+    if offsets[n - 1] != components.len() as u64 {
         return false;
     }
     offsets_hold_free(offsets)
@@ -52,10 +45,8 @@ pub fn ids_hold(count: u64, ids: &[u64]) -> bool
     ensures { result ≡ ids_hold count ids.now }
 {
     let mut ok = true;
-    let mut i = 0usize;
-    while i < ids.len() {
-        ok = ok & (ids[i] < count);
-        i += 1;
+    for id in ids {
+        ok &= *id < count;
     }
     ok
 }
@@ -66,19 +57,15 @@ fn terms_hold(components: &[u32], values: &[f32]) -> bool
     requires { length components.now ≡ length values.now }
     ensures { result ≡ slices_hold components.now values.now }
 {
-    let n = components.len();
-    if n == 0 {
+    if components.is_empty() {
         return true;
     }
     let first = values[0];
     let mut ok = (first >= -4294967296.0) & (first <= 4294967296.0);
-    let mut i = 1usize;
-    while i < n {
-        let p = i - 1;
+    for i in 1..components.len() {
         let v = values[i];
         let fits = (v >= -4294967296.0) & (v <= 4294967296.0);
-        ok = ok & fits & (components[p] < components[i]);
-        i += 1;
+        ok &= fits & (components[i - 1] < components[i]);
     }
     ok
 }
@@ -110,10 +97,8 @@ pub fn slices_hold_below(dimension: u64, components: &[u32], values: &[f32]) -> 
     if n == 0 {
         return slices_hold(components, values);
     }
-    let highest = n - 1;
-    let greatest = components[highest] as u64;
-    let hold = slices_hold(components, values);
-    hold & (greatest < dimension)
+    let greatest = components[n - 1] as u64;
+    slices_hold(components, values) & (greatest < dimension)
 }
 
 // Whether a document's components strictly rise below the dimension and its values are in bound. One pass over its terms.
@@ -128,9 +113,11 @@ pub fn document_holds(
 {
     let count = documents::term_count(components, values);
     let at = documents::places(offsets, count, id);
-    let from = at.from;
-    let to = at.to;
-    slices_hold_below(dimension, &components[from..to], &values[from..to])
+    slices_hold_below(
+        dimension,
+        &components[at.from..at.to],
+        &values[at.from..at.to],
+    )
 }
 
 // Whether that holds of each listed document. One pass over the terms of the listed documents.
@@ -144,12 +131,8 @@ pub fn documents_hold(
     ensures { result ≡ documents_hold dimension (documents offsets.now components.now values.now) ids.now }
 {
     let mut ok = true;
-    let mut i = 0usize;
-    while i < ids.len() {
-        let id = DocumentId(ids[i]);
-        let holds = document_holds(dimension, offsets, components, values, id);
-        ok = ok & holds;
-        i += 1;
+    for id in ids {
+        ok &= document_holds(dimension, offsets, components, values, DocumentId(*id));
     }
     ok
 }

@@ -1,4 +1,5 @@
 -- The steps of telling what became of a posting, over plain numbers and lists.
+use Rattle.std.specs.Prelude.{Some, Option}
 use Prim.Native.Nat.{ℕ, ◌+◌, min}
 use native.Mathlib.Omega.{arith}
 use mathlib.Core.Path.{◌≡◌, sym, ap, ◌∙◌}
@@ -15,8 +16,6 @@ use Rattle.search_probe.specs.declared.Answer.{Answer}
 use Rattle.search_probe.specs.declared.Answer.TheVariants.{Found}
 use Rattle.search_probe.specs.Probed.{Terms, Lends, Left, bytes_of, listed, probed}
 use Rattle.explain.specs.declared.Turn.{Turn}
-use Rattle.explain.specs.declared.TurnSeen.{TurnSeen}
-use Rattle.explain.specs.declared.TurnSeen.TheVariants.{Taken}
 use Rattle.explain.specs.declared.Probed.{Probed}
 use Rattle.explain.specs.declared.Fate.{Fate}
 use Rattle.explain.specs.declared.Fate.TheVariants.{InNoBlock, VisitedBefore, Read}
@@ -28,7 +27,7 @@ pub fate-reached : (a : Answer) (p : ℕ) (visits : List ℕ) (u : UnpackedRange
 fate-reached a p visits u v w ha hu hv hw =
     ap (λ z. cond z VisitedBefore Read) (sym hw ∙ hv ∙ ap (λ (z : UnpackedRange). not (eqb (get_or visits z.start.0 0) 0)) hu) ∙ ap (λ x. reached_fate x p visits) (sym ha)
 
-pub probed-is : (os : List ℕ) (turn : TurnSeen) (t : Turn) (n : ℕ) → turn ≡ Taken t → n ≡ get_or os t.block.0 0 → probed_of n t.score ≡ probed_block os turn
+pub probed-is : (os : List ℕ) (turn : Option Turn) (t : Turn) (n : ℕ) → turn ≡ Some t → n ≡ get_or os t.block.0 0 → probed_of n t.score ≡ probed_block os turn
 probed-is os turn t n h hn = ap (λ z. probed_of z t.score) hn ∙ ap (probed_block os) (sym h)
 
 pub fated-in : (k : ℕ) (f : Float) (t : Terms) (ps : List ℕ) (first : ℕ) (score : Float) (i : ℕ) (l : Lends) (r : Left) (p : ℕ) (g : Fate)
@@ -48,7 +47,7 @@ module _ (k : ℕ) (f : Float) (t : Terms) (ps os : List ℕ) (block_scores : Li
   unfolding fate_of fate_at
   fate-some h = ap (λ z. cond z (fated InNoBlock l) (at_turn k f t ps os i (turn_seen k f t ps os block_scores order at l))) (sym (ne_eqb at turns h)) ∙ ap (λ z. fate_at k f t ps os block_scores order turns i z l) ha
 
-  pub fate-turn : (at ≡ turns → ⊥) → (s : TurnSeen) (m : Lends) (b : Bool) (g : Fate) → seen s m ≡ turn_seen k f t ps os block_scores order at l → b ≡ searched s → b ≡ false → g ≡ turn_fate s
+  pub fate-turn : (at ≡ turns → ⊥) → (s : Option Turn) (m : Lends) (b : Bool) (g : Fate) → seen s m ≡ turn_seen k f t ps os block_scores order at l → b ≡ searched s → b ≡ false → g ≡ turn_fate s
       → fated g m ≡ fate_of k f t ps os block_scores order turns i l
   unfolding at_turn
   fate-turn h s m b g hs hb hf hg =
@@ -56,7 +55,7 @@ module _ (k : ℕ) (f : Float) (t : Terms) (ps os : List ℕ) (block_scores : Li
       ∙ ap (λ z. cond z (fated_in k f t ps (probed_block os s).first (probed_block os s).score i m) (fated (turn_fate s) m)) (sym hf ∙ hb)
       ∙ ap (at_turn k f t ps os i) hs ∙ fate-some h
 
-  pub fate-probed : (at ≡ turns → ⊥) → (s : TurnSeen) (m : Lends) (b : Bool) (d : Probed) (g : Fate) (m' : Lends) → seen s m ≡ turn_seen k f t ps os block_scores order at l → b ≡ searched s → b ≡ true
+  pub fate-probed : (at ≡ turns → ⊥) → (s : Option Turn) (m : Lends) (b : Bool) (d : Probed) (g : Fate) (m' : Lends) → seen s m ≡ turn_seen k f t ps os block_scores order at l → b ≡ searched s → b ≡ true
       → d ≡ probed_block os s → fated g m' ≡ fated_in k f t ps d.first d.score i m → fated g m' ≡ fate_of k f t ps os block_scores order turns i l
   unfolding at_turn
   fate-probed h s m b d g m' hs hb ht hd hg =

@@ -1,34 +1,18 @@
--- Looking for a number among the first of a list, one place after another.
-use Prim.Native.Nat.{ℕ, ◌+◌, ◌≤◌, ◌<◌, min}
-use mathlib.Core.Path.{◌≡◌, sym, ap, ◌∙◌}
-use mathlib.Core.Bool.{true, false, ◌||◌}
-use mathlib.Core.List.{List, ◌∷◌}
-use lib.ListN.{length, get_or, take, drop, length-take, drop_of_length-le}
-use lib.Seq.{drop-cons, get_or-take}
-use borrow.Author.Tests.{eq-eqb, ne_eqb}
-use native.Mathlib.Omega.{arith}
-use native.Mathlib.Numerals.{add-one}
+-- Looking for a number among the first of a list.
+use Prim.Native.Nat.{ℕ, min}
+use mathlib.Core.Path.{◌≡◌, refl, ap, ◌∙◌}
+use mathlib.Core.Bool.{Bool, ◌||◌}
+use mathlib.Core.List.{List, [], ◌∷◌}
+use lib.ListN.{length, take}
+use lib.Dec.{eqb}
+use Rattle.std.specs.List.{list_any}
+use Rattle.std.proofs.lemmas.List.{take_min}
 use Rattle.sequences.specs.Lists.{among}
+use Rattle.sequences.specs.Laws.Lists.{eqb_swap}
 
-module _ (p n : ℕ) (xs : List ℕ) (most : ℕ) (hm : most ≡ min n (length xs)) where
-  -- what is left to look through says what all of it says
-  abbrev pub Sought : ℕ → Type 0
-  Sought i = among p (drop i (take n xs)) ≡ among p (take n xs)
+any-among : (p : ℕ) (xs : List ℕ) → list_any (λ y. eqb y p) xs ≡ among p xs
+any-among p [] = refl
+any-among p (x ∷ xs) = ap (λ b. b || list_any (λ y. eqb y p) xs) (eqb_swap x p) ∙ ap (λ b. eqb p x || b) (any-among p xs)
 
-  long : length (take n xs) ≡ most
-  long = length-take n xs ∙ sym hm
-
-  next : (i : ℕ) → i < most → drop i (take n xs) ≡ get_or xs i 0 ∷ drop (i + 1) (take n xs)
-  next i h =
-      let l : i < length (take n xs) = omega (arith, long) in
-      let m : i < n = omega (arith, hm) in
-      rw (add-one, drop-cons (take n xs) i 0 l, get_or-take)
-
-  pub sought-here : (i : ℕ) → i < most → Sought i → p ≡ get_or xs i 0 → true ≡ among p (take n xs)
-  sought-here i h s e = ap (λ z. z || among p (drop (i + 1) (take n xs))) (sym (eq-eqb p (get_or xs i 0) e)) ∙ ap (among p) (sym (next i h)) ∙ s
-
-  pub sought-on : (i : ℕ) → i < most → Sought i → (p ≡ get_or xs i 0 → ⊥) → Sought (i + 1)
-  sought-on i h s e = ap (λ z. z || among p (drop (i + 1) (take n xs))) (sym (ne_eqb p (get_or xs i 0) e)) ∙ ap (among p) (sym (next i h)) ∙ s
-
-  pub sought-all : (i : ℕ) → most ≤ i → Sought i → false ≡ among p (take n xs)
-  sought-all i h s = ap (among p) (sym (drop_of_length-le (take n xs) (let h2 : length (take n xs) ≤ i = omega (arith, long) in h2))) ∙ s
+pub kept-is : (p n most : ℕ) (xs : List ℕ) (b : Bool) → most ≡ min n (length xs) → b ≡ list_any (λ y. eqb y p) (take most xs) → b ≡ among p (take n xs)
+kept-is p n most xs b h e = e ∙ any-among p (take most xs) ∙ ap (among p) (ap (λ m. take m xs) h ∙ take_min n xs)

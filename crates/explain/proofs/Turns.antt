@@ -1,4 +1,5 @@
 -- The steps of seeing a turn, over plain numbers and lists.
+use Rattle.std.specs.Prelude.{Option}
 use Prim.Native.Nat.{ℕ, suc, ◌+◌, ◌-◌, ◌≤◌, ◌<◌, min}
 use mathlib.Core.Path.{◌≡◌, sym, ap, ◌∙◌}
 use mathlib.Core.Bool.{Bool, true, false, ◌&&◌, cond}
@@ -15,7 +16,6 @@ use Rattle.search_steps.specs.Skips.{skips_at}
 use Rattle.search_held.specs.Blocks.{worst_held}
 use Rattle.search_probe.specs.Probed.{Terms, Lends, Left, listed, probed}
 use Rattle.explain.specs.declared.Turn.{Turn}
-use Rattle.explain.specs.declared.TurnSeen.{TurnSeen}
 use Rattle.explain.specs.Turns.{turn_of_block, turn_at, seen_by, seen, seen_then, turn_seen}
 use Rattle.explain.specs.Reasons.{holds, turn_of}
 
@@ -32,7 +32,7 @@ turn_is k f block_scores order at n scores b x w s hb hx hw hs =
     ∙ ap (λ z. turn_of_block k f b.0 (get_or block_scores b.0 nan) n z) hw
     ∙ ap (λ z. turn_of_block k f z (get_or block_scores z nan) n (worst_held n scores)) hb
 
-pub turn-seen : (k : ℕ) (f : Float) (t : Terms) (ps os : List ℕ) (block_scores : List Float) (order : List ℕ) (at : ℕ) (l : Lends) (r : Left) (u : Turn) (s : TurnSeen)
+pub turn-seen : (k : ℕ) (f : Float) (t : Terms) (ps os : List ℕ) (block_scores : List Float) (order : List ℕ) (at : ℕ) (l : Lends) (r : Left) (u : Turn) (s : Option Turn)
     → r ≡ probed k f t ps os block_scores (listed order at) l → u ≡ turn_at k f block_scores order at r.lent.kept.size r.lent.kept.scores → s ≡ seen_by r.answer u
     → seen s r.lent ≡ turn_seen k f t ps os block_scores order at l
 unfolding turn_seen seen_then

@@ -1,5 +1,5 @@
 -- What becomes of a posting in a search. Document 01, "Search".
-use Rattle.std.specs.Prelude.{ℕ, ◌+◌, min, Bool, false, not, ◌&&◌, cond, List, [], ◌∷◌, length, get_or, eqb, leb, ltb, Float}
+use Rattle.std.specs.Prelude.{None, Some, Option, ℕ, ◌+◌, min, Bool, false, not, ◌&&◌, cond, List, [], ◌∷◌, length, get_or, eqb, leb, ltb, Float}
 use Rattle.std.specs.Float.{binary32}
 use Rattle.std.specs.Float.Ieee.{of_bits}
 use Rattle.sequences.specs.Lists.{before}
@@ -7,8 +7,7 @@ use Rattle.search_probe.specs.declared.Answer.{Answer}
 use Rattle.search_probe.specs.declared.Answer.TheVariants.{Refused, Stopped, Found}
 use Rattle.search_probe.specs.Probing.{visited}
 use Rattle.search_probe.specs.Probed.{Terms, Lends, Left, bytes_of, listed, probed}
-use Rattle.explain.specs.declared.TurnSeen.{TurnSeen}
-use Rattle.explain.specs.declared.TurnSeen.TheVariants.{NotTaken, Taken}
+use Rattle.explain.specs.declared.Turn.{Turn}
 use Rattle.explain.specs.declared.Probed.{Probed}
 use Rattle.explain.specs.declared.Fate.{Fate}
 use Rattle.explain.specs.declared.Fate.TheVariants.{InNoBlock, NotReached, Skipped, VisitedBefore, Read}
@@ -45,20 +44,20 @@ unfoldable pub fated_in : ℕ → Float → Terms → List ℕ → ℕ → Float
 fated_in k factor t ps first score i l = fated_then t ps i (probed k factor t ps (first ∷ i ∷ []) (score ∷ []) (listed [] 1) l)
 
 -- ---- at its block's turn: the block is searched, or it is skipped, or nothing is taken any more
-abbrev pub searched : TurnSeen → Bool
-searched NotTaken = false
-searched (Taken t) = not t.skipped
+abbrev pub searched : Option Turn → Bool
+searched None = false
+searched (Some t) = not t.skipped
 
-abbrev pub turn_fate : TurnSeen → Fate
-turn_fate NotTaken = NotReached
-turn_fate (Taken t) = Skipped t.score t.bar
+abbrev pub turn_fate : Option Turn → Fate
+turn_fate None = NotReached
+turn_fate (Some t) = Skipped t.score t.bar
 
 abbrev pub probed_of : ℕ → Float → Probed
 probed_of first score = record { first = first; score = score }
 
-abbrev pub probed_block : List ℕ → TurnSeen → Probed
-probed_block os NotTaken = probed_of 0 (of_bits binary32 0)
-probed_block os (Taken t) = probed_of (get_or os t.block.0 0) t.score
+abbrev pub probed_block : List ℕ → Option Turn → Probed
+probed_block os None = probed_of 0 (of_bits binary32 0)
+probed_block os (Some t) = probed_of (get_or os t.block.0 0) t.score
 
 unfoldable pub at_turn : ℕ → Float → Terms → List ℕ → List ℕ → ℕ → Seen → Fated
 at_turn k factor t ps os i s = cond (searched s.turn) (fated_in k factor t ps (probed_block os s.turn).first (probed_block os s.turn).score i s.lent) (fated (turn_fate s.turn) s.lent)

@@ -1,5 +1,5 @@
 -- A block's turn in a search: what is held when it comes, and what the skip test says then. Document 01, "Search".
-use Rattle.std.specs.Prelude.{ℕ, List, get_or, eqb, Float}
+use Rattle.std.specs.Prelude.{None, Some, Option, ℕ, List, get_or, eqb, Float}
 use Rattle.std.specs.Float.{nan, binary32}
 use Rattle.std.specs.Float.Ieee.{mul}
 use Rattle.search_steps.specs.Skips.{skips_at}
@@ -8,8 +8,6 @@ use Rattle.search_probe.specs.declared.Answer.{Answer}
 use Rattle.search_probe.specs.declared.Answer.TheVariants.{Refused, Stopped, Found}
 use Rattle.search_probe.specs.Probed.{Terms, Lends, Left, listed, probed}
 use Rattle.explain.specs.declared.Turn.{Turn}
-use Rattle.explain.specs.declared.TurnSeen.{TurnSeen}
-use Rattle.explain.specs.declared.TurnSeen.TheVariants.{NotTaken, Taken}
 
 -- the turn of a block, where n are kept with these scores
 abbrev pub turn_of_block : ℕ → Float → ℕ → Float → ℕ → Float → Turn
@@ -20,17 +18,17 @@ unfoldable pub turn_at : ℕ → Float → List Float → List ℕ → ℕ → �
 turn_at k factor block_scores order at n scores = turn_of_block k factor (get_or order at at) (get_or block_scores (get_or order at at) nan) n (worst_held n scores)
 
 -- it is taken where nothing stopped those before it
-abbrev pub seen_by : Answer → Turn → TurnSeen
-seen_by (Refused r) t = NotTaken
-seen_by (Stopped r i) t = NotTaken
-seen_by (Found n e s) t = Taken t
+abbrev pub seen_by : Answer → Turn → Option Turn
+seen_by (Refused r) t = None
+seen_by (Stopped r i) t = None
+seen_by (Found n e s) t = Some t
 
 -- the turn, with what is held when it comes
 pub record Seen : Type 0 where
-  pub turn : TurnSeen
+  pub turn : Option Turn
   pub lent : Lends
 
-abbrev pub seen : TurnSeen → Lends → Seen
+abbrev pub seen : Option Turn → Lends → Seen
 seen t l = record { turn = t; lent = l }
 
 unfoldable pub seen_then : ℕ → Float → List Float → List ℕ → ℕ → Left → Seen

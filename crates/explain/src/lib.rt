@@ -26,13 +26,6 @@ pub struct Turn {
     pub skipped: bool,
 }
 
-// A search that is refused or stopped before a turn does not take it.
-#[derive(Clone, Copy)]
-pub enum TurnSeen {
-    NotTaken,
-    Taken(Turn),
-}
-
 // What became of a posting. One that is read is evaluated, unless the search stops at it.
 #[derive(Drop)]
 pub enum Fate {
@@ -68,8 +61,8 @@ fn turn_at(
     }
 }
 
-// A turn is taken where nothing stopped those before it.
-fn seen_by(answer: Answer, turn: Turn) -> TurnSeen
+// A turn is taken where nothing stopped those before it: a search that is refused or stopped before it does not take it.
+fn seen_by(answer: Answer, turn: Turn) -> Option<Turn>
     ensures { result ≡ seen_by answer turn }
 {
     match answer {
@@ -77,12 +70,12 @@ fn seen_by(answer: Answer, turn: Turn) -> TurnSeen
             kept: _,
             evaluated: _,
             skipped: _,
-        } => TurnSeen::Taken(turn),
+        } => Some(turn),
         Answer::Stopped {
             reason: _,
             position: _,
-        } => TurnSeen::NotTaken,
-        Answer::Refused(_) => TurnSeen::NotTaken,
+        } => None,
+        Answer::Refused(_) => None,
     }
 }
 
@@ -104,7 +97,7 @@ pub fn see_turn(
     packed: &mut [u64],
     scores: &mut [f32],
     visits: &mut [u8],
-) -> TurnSeen
+) -> Option<Turn>
     ensures { seen result (lends (lent length.new packed.new scores.new) visits.new)
         ≡ turn_seen k factor (terms query_components.now query_values.now components.now values.now) postings.now
         block_offsets.now block_scores.now block_order.now at
@@ -151,8 +144,7 @@ fn turn_of(
 ) -> u64
     ensures { result ≡ turn_of block_offsets.now count block_order.now turns position }
 {
-    let mut t = 0u64;
-    while t < turns {
+    for t in 0..turns {
         if block_holds(
             block_offsets,
             count,
@@ -161,9 +153,8 @@ fn turn_of(
         ) {
             return t;
         }
-        t += 1;
     }
-    t
+    turns
 }
 
 // What became of a posting that its block's probing came to.
@@ -239,22 +230,22 @@ fn probe_to(
 }
 
 // Whether a block is searched at its turn.
-fn is_searched(turn: TurnSeen) -> bool
+fn is_searched(turn: Option<Turn>) -> bool
     ensures { result ≡ searched turn }
 {
     match turn {
-        TurnSeen::NotTaken => false,
-        TurnSeen::Taken(t) => !t.skipped,
+        None => false,
+        Some(t) => !t.skipped,
     }
 }
 
 // What becomes of the postings of a block that is not searched at its turn.
-fn turn_fate(turn: TurnSeen) -> Fate
+fn turn_fate(turn: Option<Turn>) -> Fate
     ensures { result ≡ turn_fate turn }
 {
     match turn {
-        TurnSeen::NotTaken => Fate::NotReached,
-        TurnSeen::Taken(t) => Fate::Skipped {
+        None => Fate::NotReached,
+        Some(t) => Fate::Skipped {
             score: t.score,
             bar: t.bar,
         },
@@ -268,15 +259,15 @@ struct Probed {
     score: f32,
 }
 
-fn probed_block(block_offsets: &[u64], turn: TurnSeen) -> Probed
+fn probed_block(block_offsets: &[u64], turn: Option<Turn>) -> Probed
     ensures { result ≡ probed_block block_offsets.now turn }
 {
     match turn {
-        TurnSeen::NotTaken => Probed {
+        None => Probed {
             first: 0,
             score: 0.0,
         },
-        TurnSeen::Taken(t) => Probed {
+        Some(t) => Probed {
             first: search_held::start_at(block_offsets, t.block),
             score: t.score,
         },
@@ -356,12 +347,5 @@ pub fn is_kept(posting: PackedPosting, length: u64, packed: &[u64]) -> bool
     ensures { result ≡ among posting.0 (take length packed.now) }
 {
     let most = shorter(length as usize, packed.len());
-    let mut i = 0usize;
-    while i < most {
-        if posting.0 == packed[i] {
-            return true;
-        }
-        i += 1;
-    }
-    false
+    packed[..most].contains(&posting.0)
 }

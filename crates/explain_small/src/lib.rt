@@ -6,7 +6,7 @@ ghost use Rattle.std.specs.Prelude.{◌≡◌};
 ghost use Rattle.search_probe.specs.Probed.{terms};
 ghost use Rattle.explain_small.specs.Short.{turn_short, fate_short};
 
-use explain::{Fate, TurnSeen};
+use explain::{Fate, Turn};
 
 // The turn with this number, counted from 0: explain::see_turn from the search's beginning, with nothing kept and nothing visited.
 pub fn see_turn(
@@ -21,7 +21,7 @@ pub fn see_turn(
     block_offsets: &[u64],
     block_scores: &[f32],
     block_order: &[u64],
-) -> TurnSeen
+) -> Option<Turn>
     ensures { result ≡ turn_short k factor (terms query_components.now query_values.now components.now values.now) postings.now
         block_offsets.now block_scores.now block_order.now at }
 {

@@ -93,8 +93,7 @@ pub fn sweep(
         skipped: 0,
     };
     let mut worst = search_held::worst_kept(*length, scores);
-    let mut i = 0u64;
-    while i < turns {
+    for i in 0..turns {
         let b = search_held::block_at(block_offsets, block_scores, block_order, i);
         let t = take_turn(
             table,
@@ -122,9 +121,7 @@ pub fn sweep(
                 return Turn::Stopped { reason, position };
             }
         }
-        let next = search_held::worst_kept(*length, scores);
-        worst = next;
-        i += 1;
+        worst = search_held::worst_kept(*length, scores);
     }
     Turn::On(c)
 }

@@ -16,11 +16,8 @@ fn never_fall(component_offsets: &[u64]) -> bool
     ensures { result ≡ never_falls component_offsets.now }
 {
     let mut ok = true;
-    let mut i = 1usize;
-    while i < component_offsets.len() {
-        let p = i - 1;
-        ok = ok & (component_offsets[p] <= component_offsets[i]);
-        i += 1;
+    for i in 1..component_offsets.len() {
+        ok &= component_offsets[i - 1] <= component_offsets[i];
     }
     ok
 }
@@ -30,11 +27,8 @@ fn strictly_rise(summary_components: &[u32]) -> bool
     ensures { result ≡ strictly_rise summary_components.now }
 {
     let mut ok = true;
-    let mut i = 1usize;
-    while i < summary_components.len() {
-        let p = i - 1;
-        ok = ok & (summary_components[p] < summary_components[i]);
-        i += 1;
+    for i in 1..summary_components.len() {
+        ok &= summary_components[i - 1] < summary_components[i];
     }
     ok
 }
@@ -44,10 +38,8 @@ fn all_under(summary_ids: &[u16], bound: u16) -> bool
     ensures { result ≡ every (λ i. ltb i bound) summary_ids.now }
 {
     let mut ok = true;
-    let mut i = 0usize;
-    while i < summary_ids.len() {
-        ok = ok & (summary_ids[i] < bound);
-        i += 1;
+    for id in summary_ids {
+        ok &= *id < bound;
     }
     ok
 }
@@ -70,11 +62,8 @@ fn minimums_hold(minimums: &[f32]) -> bool
     ensures { result ≡ every minimum_allowed minimums.now }
 {
     let mut ok = true;
-    let mut i = 0usize;
-    while i < minimums.len() {
-        let m = minimums[i];
-        ok = ok & ((m >= -4294967296.0) & (m <= 4294967296.0));
-        i += 1;
+    for m in minimums {
+        ok &= (*m >= -4294967296.0) & (*m <= 4294967296.0);
     }
     ok
 }
@@ -84,11 +73,8 @@ fn steps_hold(steps: &[f32]) -> bool
     ensures { result ≡ every step_allowed steps.now }
 {
     let mut ok = true;
-    let mut i = 0usize;
-    while i < steps.len() {
-        let s = steps[i];
-        ok = ok & ((s >= -4294967296.0) & (s <= 4294967296.0) & (s >= 0.0));
-        i += 1;
+    for s in steps {
+        ok &= (*s >= -4294967296.0) & (*s <= 4294967296.0) & (*s >= 0.0);
     }
     ok
 }
@@ -99,11 +85,8 @@ fn count_few_falls(summary_ids: &[u16]) -> u16
     ensures { result ≡ falls summary_ids.now }
 {
     let mut count = 0u16;
-    let mut i = 1usize;
-    while i < summary_ids.len() {
-        let p = i - 1;
-        count += (summary_ids[i] <= summary_ids[p]) as u16;
-        i += 1;
+    for i in 1..summary_ids.len() {
+        count += (summary_ids[i] <= summary_ids[i - 1]) as u16;
     }
     count
 }
@@ -118,6 +101,7 @@ fn count_falls(summary_ids: &[u16]) -> u64
     let n = summary_ids.len();
     let mut count = 0u64;
     let mut i = 0usize;
+    // the place moves on by nearly a whole part, not by one
     while FEW < n - i {
         let end = i + FEW;
         count += count_few_falls(&summary_ids[i..end]) as u64;
@@ -139,8 +123,7 @@ fn seam(before: u64, at: u64, summary_ids: &[u16]) -> u64
     if summary_ids.len() <= i {
         return 0;
     }
-    let p = i - 1;
-    (summary_ids[i] <= summary_ids[p]) as u64
+    (summary_ids[i] <= summary_ids[i - 1]) as u64
 }
 
 // How many ids that do not lie above the one before them are a component's first.
@@ -148,11 +131,8 @@ fn count_seams(component_offsets: &[u64], summary_ids: &[u16]) -> u64
     ensures { result ≡ seams summary_ids.now component_offsets.now }
 {
     let mut count = 0u64;
-    let mut i = 1usize;
-    while i < component_offsets.len() {
-        let p = i - 1;
-        count += seam(component_offsets[p], component_offsets[i], summary_ids);
-        i += 1;
+    for i in 1..component_offsets.len() {
+        count += seam(component_offsets[i - 1], component_offsets[i], summary_ids);
     }
     count
 }

@@ -2,10 +2,10 @@
 use mathlib.Core.Path.{◌≡◌, refl, sym, ap, ◌∙◌}
 use mathlib.Core.List.{List, [], ◌∷◌}
 use mathlib.Core.Bool.{Bool, true, false, ◌&&◌, cond}
-use Prim.Native.Nat.{ℕ, ◌+◌, ◌-◌, ◌≤◌, ◌<◌, ◌%◌, min}
+use Prim.Native.Nat.{ℕ, ◌+◌, ◌-◌, ◌≤◌, ◌<◌, ◌%◌}
 use native.Mathlib.Omega.{arith}
 use native.Mathlib.Numerals.{add-one}
-use borrow.Author.Tests.{lt-ltb, le-ltb, eq-eqb, ne_eqb, ltb-true, ltb-false, eqb-true, eqb-false}
+use borrow.Author.Tests.{lt-ltb, le-ltb, eq-eqb, ne_eqb, eqb-true, eqb-false}
 use lib.ListN.{length, get_or, drop, set, drop_of_length-le}
 use lib.Seq.{drop-cons, drop-length}
 use lib.Dec.{eqb, ltb}
@@ -104,29 +104,20 @@ put-there table c w l = rw (lt-ltb c 32768 l)
 pub put-nowhere : (table : List Float) (c : ℕ) (w : Float) → 32768 ≤ c → table ≡ cond (ltb c 32768) (set table c w) table
 put-nowhere table c w l = rw (le-ltb c 32768 l)
 
-module _ (qs : List ℕ) (ws : List Float) where
-  abbrev pub laying_from : List Float → ℕ → List Float
-  laying_from table i = laying table (drop i qs) (drop i ws)
+pub laying-next : (table next : List Float) (q : ℕ) (w : Float) (qs cs : List ℕ) (ws vs : List Float) → cs ≡ q ∷ qs → vs ≡ w ∷ ws → next ≡ cond (ltb q 32768) (set table q w) table → laying next qs ws ≡ laying table cs vs
+unfolding laying
+laying-next table next q w qs cs ws vs e f g = rw (e, f, g)
 
-  pub laying-step : (table next : List Float) (i : ℕ) → i < length qs → i < length ws → next ≡ cond (ltb (get_or qs i 0) 32768) (set table (get_or qs i 0) (get_or ws i nan)) table → laying_from next (i + 1) ≡ laying_from table i
-  unfolding laying
-  laying-step table next i h g e = rw (e, add-one i, drop-cons qs i 0 h, drop-cons ws i nan g)
+pub laying-none : (table : List Float) (qs : List ℕ) (ws : List Float) → length qs ≡ 0 → table ≡ laying table qs ws
+unfolding laying
+laying-none table [] ws e = refl
+laying-none table (q ∷ qs) ws e = let z : ⊥ = omega arith in absurd z
 
-  laying-none : (table : List Float) (l : List Float) → laying table [] l ≡ table
-  unfolding laying
-  laying-none table l = refl
-
-  laying-short : (table : List Float) (l : List ℕ) → laying table l [] ≡ table
-  unfolding laying
-  laying-short table [] = refl
-  laying-short table (q ∷ l) = refl
-
-  pub laying-end : (table : List Float) (i : ℕ) → min (length qs) (length ws) ≤ i → laying_from table i ≡ table
-  laying-end table i h = at (ltb i (length qs)) refl
-    where
-      at : (b : Bool) → ltb i (length qs) ≡ b → laying_from table i ≡ table
-      at true e = let l = ltb-true i (length qs) e in let g : length ws ≤ i = omega arith in rw (drop_of_length-le ws g) (laying-short table (drop i qs))
-      at false e = rw (drop_of_length-le qs (ltb-false i (length qs) e)) (laying-none table (drop i ws))
+pub laying-short : (table : List Float) (qs : List ℕ) (ws : List Float) → length ws ≡ 0 → table ≡ laying table qs ws
+unfolding laying
+laying-short table [] ws e = refl
+laying-short table (q ∷ qs) [] e = refl
+laying-short table (q ∷ qs) (w ∷ ws) e = let z : ⊥ = omega arith in absurd z
 
 module _ (table : List Float) (cs : List ℕ) (vs : List Float) where
   abbrev pub laid_from : ℕ → Float → Float

@@ -48,11 +48,8 @@ fn put(table: &mut [f32; 32768], c: u32, weight: f32)
 pub fn lay(query_components: &[u32], query_values: &[f32], table: &mut [f32; 32768])
     ensures { table.new ≡ laying table.old query_components.now query_values.now }
 {
-    let n = documents::term_count(query_components, query_values);
-    let mut i = 0usize;
-    while i < n {
-        put(table, query_components[i], query_values[i]);
-        i += 1;
+    for (c, weight) in query_components.iter().zip(query_values) {
+        put(table, *c, *weight);
     }
 }
 
@@ -61,12 +58,9 @@ pub fn sieve_of(query_components: &[u32]) -> [u8; 4096]
     ensures { result ≡ sieve_of query_components.now }
 {
     let mut sieve = [0u8; 4096];
-    let mut i = 0usize;
-    while i < query_components.len() {
-        let c = query_components[i];
-        let r = (c % 4096) as usize;
+    for c in query_components {
+        let r = (*c % 4096) as usize;
         sieve[r] = 1;
-        i += 1;
     }
     sieve
 }
@@ -92,45 +86,34 @@ fn mark(sieve: &[u8; 4096], c: u32) -> u32
 fn seek(query_components: &[u32], j: usize, a: u32) -> usize
     ensures { result ≡ sought query_components.now j a }
 {
-    let mut k = j;
-    while k < query_components.len() {
+    let n = query_components.len();
+    for k in j..n {
         if a <= query_components[k] {
             return k;
         }
-        k += 1;
     }
-    k
+    j.max(n)
 }
 
 // The sum with the product of one term, if the query has its component.
 fn look(a: u32, v: f32, s: Sum, query_components: &[u32], query_values: &[f32]) -> Sum
     ensures { result ≡ looked query_components.now query_values.now a v s }
 {
-    let j = s.at;
     let total = s.total;
-    let at = seek(query_components, j, a);
+    let at = seek(query_components, s.at, a);
     if query_components.len() <= at {
-        return Sum {
-            total: total,
-            at: at,
-        };
+        return Sum { total, at };
     }
     if query_values.len() <= at {
-        return Sum {
-            total: total,
-            at: at,
-        };
+        return Sum { total, at };
     }
     if query_components[at] == a {
         return Sum {
             total: total + v * query_values[at],
-            at: at,
+            at,
         };
     }
-    Sum {
-        total: total,
-        at: at,
-    }
+    Sum { total, at }
 }
 
 // One term of a page.
@@ -173,9 +156,8 @@ fn terms(
     ensures { through sieve.now query_components.now query_values.now (drop i components.now) (drop i values.now) s
         ≡ through sieve.now query_components.now query_values.now (drop e components.now) (drop e values.now) result }
 {
-    let mut k = i;
     let mut t = s;
-    while k < e {
+    for k in i..e {
         t = term(
             sieve,
             components,
@@ -185,7 +167,6 @@ fn terms(
             query_components,
             query_values,
         );
-        k += 1;
     }
     t
 }
@@ -205,14 +186,10 @@ fn four(
     ensures { through sieve.now query_components.now query_values.now (drop i components.now) (drop i values.now) s
         ≡ through sieve.now query_components.now query_values.now (drop (i + 4) components.now) (drop (i + 4) values.now) result }
 {
-    let i1 = i + 1;
-    let i2 = i + 2;
-    let i3 = i + 3;
-    let e = i + 4;
     let m0 = mark(sieve, components[i]);
-    let m1 = mark(sieve, components[i1]);
-    let m2 = mark(sieve, components[i2]);
-    let m3 = mark(sieve, components[i3]);
+    let m1 = mark(sieve, components[i + 1]);
+    let m2 = mark(sieve, components[i + 2]);
+    let m3 = mark(sieve, components[i + 3]);
     if m0 + m1 + m2 + m3 == 0 {
         return s;
     }
@@ -221,7 +198,7 @@ fn four(
         components,
         values,
         i,
-        e,
+        i + 4,
         s,
         query_components,
         query_values,
@@ -242,24 +219,23 @@ fn walk(
 {
     let n = components.len();
     let mut s = Sum { total: 0.0, at: 0 };
-    let mut i = 0usize;
-    while 4 <= n - i {
+    let fours = n / 4;
+    for b in 0..fours {
         s = four(
             sieve,
             components,
             values,
-            i,
+            b * 4,
             s,
             query_components,
             query_values,
         );
-        i += 4;
     }
     s = terms(
         sieve,
         components,
         values,
-        i,
+        fours * 4,
         n,
         s,
         query_components,
@@ -289,10 +265,8 @@ fn laid_rest(
     ensures { result ≡ laid_sum table.now (drop from components.now) (drop from values.now) start }
 {
     let mut sum = start;
-    let mut i = from;
-    while i < components.len() {
+    for i in from..components.len() {
         sum = with_term(table, components[i], values[i], sum);
-        i += 1;
     }
     sum
 }
@@ -322,15 +296,13 @@ fn laid_two(
     let n = cells::shorter(components.len(), others.len());
     let mut a = 0.0;
     let mut b = 0.0;
-    let mut i = 0usize;
-    while i < n {
+    for i in 0..n {
         a = with_term(table, components[i], values[i], a);
         b = with_term(table, others[i], other_values[i], b);
-        i += 1;
     }
-    let one = laid_rest(table, components, values, i, a);
-    let two = laid_rest(table, others, other_values, i, b);
-    Sums { one: one, two: two }
+    let one = laid_rest(table, components, values, n, a);
+    let two = laid_rest(table, others, other_values, n, b);
+    Sums { one, two }
 }
 
 // Whether rising components all have a place in the table: the last one decides.

@@ -27,18 +27,12 @@ fn touch(seen: Seen, components: &[u32], values: &[f32]) -> Seen
     let last = n - 1;
     let mut bits = seen.bits | components[last];
     let mut sum = values[last];
-    let mut i = 0usize;
-    while LINE <= n - i {
-        bits = bits | components[i];
-        sum = sum + values[i];
-        i += LINE;
-    }
-    if i < n {
-        bits = bits | components[i];
-        sum = sum + values[i];
+    for i in (0..n).step_by(LINE) {
+        bits |= components[i];
+        sum += values[i];
     }
     Seen {
-        bits: bits,
+        bits,
         fine: seen.fine & (sum >= 0.0),
     }
 }
@@ -52,8 +46,7 @@ fn look(
     posting: PackedPosting,
 ) -> Seen {
     let range = posting.unpack();
-    let start = range.start;
-    let from = start.0 as usize;
+    let from = range.start.0 as usize;
     let to = range.end as usize;
     let visit = cells::at_u8(visits, from, 0);
     let n = documents::term_count(components, values);
@@ -82,10 +75,8 @@ pub(crate) fn look_ahead(
         bits: 0,
         fine: true,
     };
-    let mut i = 0usize;
-    while i < postings.len() {
-        seen = look(seen, components, values, visits, PackedPosting(postings[i]));
-        i += 1;
+    for posting in postings {
+        seen = look(seen, components, values, visits, PackedPosting(*posting));
     }
     (seen.bits < 32768) & seen.fine
 }

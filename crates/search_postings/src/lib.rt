@@ -112,8 +112,7 @@ fn evaluate(
         posting.0 position counts (lends (lent length.old packed.old scores.old) visits.old) }
 {
     let range = posting.unpack();
-    let start = range.start;
-    if search_steps::is_visited(visits, start) {
+    if search_steps::is_visited(visits, range.start) {
         return Turn::On(counts);
     }
     let r = read_range(
@@ -124,20 +123,20 @@ fn evaluate(
         query_values,
         components,
         values,
-        start,
+        range.start,
         range.end,
     );
     match r {
         RangeReading::ReachesPast => Turn::Stopped {
             reason: Refusal::PastTheTerms,
-            position: position,
+            position,
         },
         RangeReading::Breaks => Turn::Stopped {
             reason: Refusal::WrongTerms,
-            position: position,
+            position,
         },
         RangeReading::Score(x) => {
-            search_held::keep_found(k, posting, start, x, length, packed, scores, visits);
+            search_held::keep_found(k, posting, range.start, x, length, packed, scores, visits);
             Turn::On(Counts {
                 evaluated: search_steps::one_more(counts.evaluated),
                 skipped: counts.skipped,
@@ -219,10 +218,7 @@ fn step_on(
             counts: c,
             next: i + 1,
         },
-        Turn::Stopped { reason, position } => Step::Stopped {
-            reason: reason,
-            position: position,
-        },
+        Turn::Stopped { reason, position } => Step::Stopped { reason, position },
     }
 }
 
@@ -256,6 +252,7 @@ pub fn probe_postings(
     let mut narrow = true;
     let mut known = first;
     let mut i = first;
+    // a step goes on by one posting or by two
     while i < stop {
         if known <= i {
             known = cells::shorter(stop - i, AHEAD) + i;
@@ -285,10 +282,7 @@ pub fn probe_postings(
                 i = next;
             }
             Step::Stopped { reason, position } => {
-                return Turn::Stopped {
-                    reason: reason,
-                    position: position,
-                };
+                return Turn::Stopped { reason, position };
             }
         }
     }

@@ -4,7 +4,7 @@ use crate::pages;
 use crate::text::{Hundredths, name};
 use build_meaning::BuildAnswer;
 use configuration::{BlockingStrategy, SummarizationStrategy};
-use explain::{Fate, TurnSeen};
+use explain::{Fate, Turn};
 use packing::PackedPosting;
 use search_probe::Answer;
 use std::io;
@@ -127,8 +127,8 @@ fn say_found(
 }
 
 // A turn that was taken, counted from 1: the block's score, and the bar that it had to reach, which there is once two pages are kept.
-fn say_turn(rt: &impl Print, before: u64, seen: TurnSeen) -> io::Result<()> {
-    if let TurnSeen::Taken(turn) = seen {
+fn say_turn(rt: &impl Print, before: u64, seen: Option<Turn>) -> io::Result<()> {
+    if let Some(turn) = seen {
         let at = std::num::wrapping_add_u64(before, 1);
         let block = turn.block.0;
         let score = hundredths(turn.score);

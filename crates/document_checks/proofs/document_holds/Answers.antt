@@ -6,8 +6,8 @@ use Rattle.document_checks.proofs.Listed.{holds_at}
 use borrow.Author.Rules.{rules}
 use Rattle.document_checks.proofs.document_holds.Goals as goal
 
-pub offset_bounds-components-from : goal.offset_bounds-components-from
-offset_bounds-components-from c =
+pub offset_bounds-components-at : goal.offset_bounds-components-at
+offset_bounds-components-at c =
     let a = c.args in
     let p = c.places-at in
     let o = places-ordered (documents a.offsets.now a.components.now a.values.now) c.term_count-count.result a.id.0 p.result p.ensures in
@@ -38,8 +38,8 @@ slice_bounds-slices_hold_below-end c =
     let w = places-in (documents a.offsets.now a.components.now a.values.now) c.term_count-count.result a.id.0 p.result p.ensures in
     search rules
 
-pub offset_bounds-values-from : goal.offset_bounds-values-from
-offset_bounds-values-from c =
+pub offset_bounds-values-at : goal.offset_bounds-values-at
+offset_bounds-values-at c =
     let a = c.args in
     let p = c.places-at in let o = places-ordered (documents a.offsets.now a.components.now a.values.now) c.term_count-count.result a.id.0 p.result p.ensures in let w = places-in (documents a.offsets.now a.components.now a.values.now) c.term_count-count.result a.id.0 p.result p.ensures in search rules
 

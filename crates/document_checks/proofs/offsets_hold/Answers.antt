@@ -11,10 +11,10 @@ pub returns-then-components-values : goal.returns-then-components-values
 returns-then-components-values c =
     let a = c.args in sym (offsets-hold-uneven a.offsets.now a.components.now a.values.now c.if-components-values.true)
 
-pub returns-then-end-components : goal.returns-then-end-components
-returns-then-end-components c =
+pub returns-then-offsets-n : goal.returns-then-offsets-n
+returns-then-offsets-n c =
     let a = c.args in
-    sym (offsets-hold-past a.offsets.now a.components.now a.values.now (omega arith) c.if-end-components.true)
+    sym (offsets-hold-past a.offsets.now a.components.now a.values.now (omega arith) c.if-offsets-n.true)
 
 pub returns : goal.returns
 returns c =

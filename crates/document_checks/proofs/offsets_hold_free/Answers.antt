@@ -1,20 +1,25 @@
 -- The loop's invariant: what was found so far and the offsets from the last one looked at make the check of all.
-use mathlib.Core.Path.{refl, ◌∙◌}
+use mathlib.Core.Path.{◌∙◌}
 use native.Mathlib.Omega.{arith}
 use Rattle.document_checks.proofs.Loops.{offsets-none, offsets-first, offsets-step, offsets-end}
+use Rattle.std.proofs.lemmas.Grind.{common_steps}
+use Prim.Native.Nat.{◌<◌}
+use lib.ListN.{length}
 use Rattle.document_checks.proofs.offsets_hold_free.Goals as goal
 
-pub returns-then-n-eq0 : goal.returns-then-n-eq0
-returns-then-n-eq0 c = offsets-none c.args.offsets.now c.if-n-eq0.true
+pub returns-then-is_empty : goal.returns-then-is_empty
+returns-then-is_empty c = offsets-none c.args.offsets.now (grind (arith, common_steps, c.is_empty.ensures, c.if-is_empty.true))
 
 pub loop-i-init : goal.loop-i-init
-loop-i-init c = let a = c.args in (omega arith, omega arith, refl, offsets-first a.offsets.now (omega arith))
+loop-i-init c = offsets-first c.args.offsets.now (grind (arith, common_steps, c.is_empty.ensures, c.if-is_empty.false))
 
 pub loop-i-preserved : goal.loop-i-preserved
 loop-i-preserved c =
     let l = c.loop-i in
-    let a = c.args in
-    (omega arith, omega arith, l.invariant.2, offsets-step l.ok a.offsets.now l.i l.invariant.0 (omega arith) ∙ l.invariant.3)
+    offsets-step l.ok c.args.offsets.now l.i (omega arith) (omega arith) ∙ l.invariant
 
 pub returns : goal.returns
-returns c = let l = c.loop-i in let a = c.args in offsets-end l.ok a.offsets.now l.i _ l.invariant.0 (omega arith) l.invariant.3
+returns c =
+    let l = c.loop-i in
+    let some : 0 < length c.args.offsets.now = grind (arith, common_steps, c.is_empty.ensures, c.if-is_empty.false) in
+    offsets-end l.ok c.args.offsets.now l.i _ (omega arith) (omega arith) l.invariant

@@ -17,4 +17,4 @@ overflow_cast-greatest c =
 pub returns : goal.returns
 returns c =
     let a = c.args in
-    below_last a.dimension a.components.now a.values.now _ c.slices_hold-hold.ensures (omega arith)
+    below_last a.dimension a.components.now a.values.now _ c.slices_hold-2.ensures (omega arith)

@@ -4,10 +4,10 @@ use Rattle.explain.specs.Reasons.{probed_block}
 use Rattle.explain.proofs.Fates.{probed-is}
 use Rattle.explain.proofs.probed_block.Goals as goal
 
-pub returns-in-NotTaken : goal.returns-in-NotTaken
-returns-in-NotTaken c = let a = c.args in ap (probed_block a.block_offsets.now) (sym c.in-NotTaken.is)
+pub returns-in-None : goal.returns-in-None
+returns-in-None c = let a = c.args in ap (probed_block a.block_offsets.now) (sym c.in-None.is)
 
-pub returns-in-Taken : goal.returns-in-Taken
-returns-in-Taken c =
+pub returns-in-Some : goal.returns-in-Some
+returns-in-Some c =
     let a = c.args in
-    probed-is a.block_offsets.now a.turn c.in-Taken.t _ c.in-Taken.is c.start_at.ensures
+    probed-is a.block_offsets.now a.turn c.in-Some.t _ c.in-Some.is c.start_at.ensures

@@ -3,5 +3,5 @@ use mathlib.Core.Path.{sym, ap}
 use Rattle.explain.specs.Reasons.{turn_fate}
 use Rattle.explain.proofs.turn_fate.Goals as goal
 
-pub returns-in-Taken : goal.returns-in-Taken
-returns-in-Taken c = ap turn_fate (sym c.in-Taken.is)
+pub returns-in-Some : goal.returns-in-Some
+returns-in-Some c = ap turn_fate (sym c.in-Some.is)

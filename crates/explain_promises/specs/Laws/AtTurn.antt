@@ -1,5 +1,5 @@
 -- What is told of a posting at its block's turn, from the state in which the turns before leave the search.
-use Rattle.std.specs.Prelude.{ℕ, ◌+◌, ◌-◌, ◌≤◌, ◌<◌, min, ◌≡◌, Bool, true, not, ◌&&◌, get_or, ltb}
+use Rattle.std.specs.Prelude.{Some, ℕ, ◌+◌, ◌-◌, ◌≤◌, ◌<◌, min, ◌≡◌, Bool, true, not, ◌&&◌, get_or, ltb}
 use Rattle.std.proofs.Common.{arith, ◌∙◌, take_at, ne_eqb, le-leb, lt-ltb}
 use Rattle.std.proofs.Math.Path.{sym, ap}
 use Rattle.std.proofs.Math.Bool.{false, cond}
@@ -17,7 +17,6 @@ use Rattle.search_probe.specs.Probing.{Place, Given, State, state, goes_on, and_
 use Rattle.search_probe.specs.Probed.{given, tests, rest_of, laid, if_accepted, opened, listed, probed}
 use Rattle.search_probe.specs.Laws.Worst.{worst-laid}
 use Rattle.explain.specs.declared.Turn.{Turn}
-use Rattle.explain.specs.declared.TurnSeen.TheVariants.{Taken}
 use Rattle.explain.specs.declared.Fate.TheVariants as tells
 use Rattle.explain.specs.Turns.{turn_of_block, turn_at, seen, seen_then, turn_seen}
 use Rattle.explain.specs.Reasons.{holds, turn_of, Fated, fated, fated_then, fated_in, at_turn, fate_at, fate_of}
@@ -86,12 +85,12 @@ module _ (q : Search) (accepted : first_of (tests q.k q.terms q.lent) ≡ Accept
       ∙ ap (λ bs. laid q.terms q.lent (sweep (given_of q) bs (began_with q))) order-cut.0
       ∙ ap (laid q.terms q.lent) there
 
-  turn-seen : turn_seen q.k q.factor q.terms q.postings q.block_offsets q.block_scores q.block_order at q.lent ≡ seen (Taken turn_then) (laid_down q.terms q.lent s)
+  turn-seen : turn_seen q.k q.factor q.terms q.postings q.block_offsets q.block_scores q.block_order at q.lent ≡ seen (Some turn_then) (laid_down q.terms q.lent s)
   unfolding turn_seen seen_then
-  turn-seen = ap (seen_then q.k q.factor q.block_scores q.block_order at) probed-before ∙ ap (λ u. seen (Taken u) (laid_down q.terms q.lent s)) turn-then
+  turn-seen = ap (seen_then q.k q.factor q.block_scores q.block_order at) probed-before ∙ ap (λ u. seen (Some u) (laid_down q.terms q.lent s)) turn-then
 
   fate-at-turn : fate_of q.k q.factor q.terms q.postings q.block_offsets q.block_scores q.block_order q.count p.place q.lent
-      ≡ at_turn q.k q.factor q.terms q.postings q.block_offsets p.place (seen (Taken turn_then) (laid_down q.terms q.lent s))
+      ≡ at_turn q.k q.factor q.terms q.postings q.block_offsets p.place (seen (Some turn_then) (laid_down q.terms q.lent s))
   unfolding fate_of fate_at
   fate-at-turn =
       let l = order-cut.2 in

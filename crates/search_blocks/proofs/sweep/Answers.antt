@@ -29,13 +29,9 @@ returns-in-Stopped c =
     let l = c.loop-i in
     let a = c.args in
     sweep-stop a.k a.factor (through_table a.table.now a.sieve.now a.query_components.now a.query_values.now a.components.now a.values.now) a.postings.now
-    a.block_offsets.now a.block_scores.now (get_or a.block_order.now l.i l.i) _ _ (listed_next a.block_order.now l.i a.turns c.loop-i-test.true) l.c
+    a.block_offsets.now a.block_scores.now (get_or a.block_order.now l.i l.i) _ _ (listed_next a.block_order.now l.i a.turns (omega arith)) l.c
     (lends (lent l.length l.packed l.scores) l.visits) c.block_at-b.result c.block_at-b.ensures c.take_turn-t.result _ _ _
     c.in-Stopped.is c.take_turn-t.ensures ∙ l.invariant.3
-
-pub overflow_add-i : goal.overflow_add-i
-overflow_add-i c =
-    omega (arith, c.loop-i-test.true, c.ranges.turns)
 
 pub loop-i-preserved : goal.loop-i-preserved
 loop-i-preserved c =
@@ -45,10 +41,10 @@ loop-i-preserved c =
       search rules,
       search rules,
       sweep-on a.k a.factor (through_table a.table.now a.sieve.now a.query_components.now a.query_values.now a.components.now a.values.now) a.postings.now
-          a.block_offsets.now a.block_scores.now (get_or a.block_order.now l.i l.i) _ _ (listed_next a.block_order.now l.i a.turns c.loop-i-test.true) l.c
+          a.block_offsets.now a.block_scores.now (get_or a.block_order.now l.i l.i) _ _ (listed_next a.block_order.now l.i a.turns (omega arith)) l.c
           (lends (lent l.length l.packed l.scores) l.visits) c.block_at-b.result c.block_at-b.ensures c.take_turn-t.result _ _
           c.in-On.is c.take_turn-t.ensures ∙ l.invariant.3,
-      c.worst_kept-next.ensures,
+      c.worst_kept-worst-in-loop-i.ensures,
     )
 
 pub returns : goal.returns
@@ -57,4 +53,4 @@ returns c =
     let a = c.args in
     sweep-end a.k a.factor (through_table a.table.now a.sieve.now a.query_components.now a.query_values.now a.components.now a.values.now) a.postings.now
     a.block_offsets.now a.block_scores.now _ l.c (lends (lent l.length l.packed l.scores) l.visits)
-    (listed-none a.block_order.now l.i a.turns c.loop-i-test.false) ∙ l.invariant.3
+    (listed-none a.block_order.now l.i a.turns (omega arith)) ∙ l.invariant.3

@@ -1,6 +1,5 @@
 -- `search_blocks::sweep`: the turns that are left are those of all.
 use mathlib.Core.Path.{◌≡◌}
-use Prim.Native.Nat.{◌-◌}
 use lib.ListN.{length as len}
 use Rattle.kept_list.specs.Lent.{lent}
 use Rattle.search_postings.specs.Ranges.{through_table}
@@ -15,6 +14,3 @@ invariant-loop-i l =
     × (held_sweep l.k l.factor (through_table l.table l.sieve l.query_components l.query_values l.components l.values) l.postings l.block_offsets l.block_scores (listed_from l.block_order l.i l.turns) l.c (lends (lent l.length l.packed l.scores) l.visits)
     ≡ held_sweep l.k l.factor (through_table l.table l.sieve l.query_components l.query_values l.components l.values) l.postings l.block_offsets l.block_scores (listed l.block_order l.turns) (counted 0 0) (lends (lent l.initial.length l.initial.packed l.initial.scores) l.initial.visits))
     × (l.worst ≡ worst_held l.length l.scores)
-
-abbrev pub decreases-loop-i : goal.decreases-loop-i
-decreases-loop-i l = l.turns - l.i

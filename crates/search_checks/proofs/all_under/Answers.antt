@@ -4,11 +4,11 @@ use mathlib.Core.Path.{refl, ◌∙◌}
 use Rattle.search_checks.proofs.Loops.{every-step, every-end}
 use Rattle.search_checks.proofs.all_under.Goals as goal
 
-pub loop-i-init : goal.loop-i-init
-loop-i-init c = refl
+pub loop-id-init : goal.loop-id-init
+loop-id-init c = refl
 
-pub loop-i-preserved : goal.loop-i-preserved
-loop-i-preserved c = let l = c.loop-i in every-step _ _ 0 l.ok _ l.i (omega arith) refl ∙ l.invariant
+pub loop-id-preserved : goal.loop-id-preserved
+loop-id-preserved c = let l = c.loop-id in every-step _ _ 0 l.ok _ l.id-index (omega arith) refl ∙ l.invariant
 
 pub returns : goal.returns
-returns c = let l = c.loop-i in every-end _ _ 0 l.ok l.i _ c.loop-i-test.false l.invariant
+returns c = let l = c.loop-id in every-end _ _ 0 l.ok l.id-index _ (omega arith) l.invariant

@@ -9,7 +9,7 @@ use lib.ListN.{get_or}
 use Rattle.search_checks.proofs.count_few_falls.Goals as goal
 
 pub loop-i-init : goal.loop-i-init
-loop-i-init c = (omega arith, omega arith, omega arith)
+loop-i-init c = (omega arith, omega arith)
 
 pub overflow_add-count : goal.overflow_add-count
 overflow_add-count c = let l = c.loop-i in let summary-ids = c.args.summary_ids.now in let small = byte_small (leb (get_or summary-ids l.i 0) (get_or summary-ids (l.i - 1) 0)) in omega arith
@@ -17,10 +17,9 @@ overflow_add-count c = let l = c.loop-i in let summary-ids = c.args.summary_ids.
 pub loop-i-preserved : goal.loop-i-preserved
 loop-i-preserved c = let l = c.loop-i in let summary-ids = c.args.summary_ids.now in let small = byte_small (leb (get_or summary-ids l.i 0) (get_or summary-ids (l.i - 1) 0)) in (
   omega arith,
-  omega arith,
-  falls-step summary-ids l.count l.i l.invariant.0 _ (omega arith) (byte-fall (get_or summary-ids (l.i - 1) 0) (get_or summary-ids l.i 0))
-      ∙ l.invariant.2,
+  falls-step summary-ids l.count l.i (omega arith) _ (omega arith) (byte-fall (get_or summary-ids (l.i - 1) 0) (get_or summary-ids l.i 0))
+      ∙ l.invariant.1,
 )
 
 pub returns : goal.returns
-returns c = let l = c.loop-i in falls-end _ l.count l.i l.invariant.0 _ c.loop-i-test.false l.invariant.2
+returns c = let l = c.loop-i in falls-end _ l.count l.i (omega arith) _ (omega arith) l.invariant.1

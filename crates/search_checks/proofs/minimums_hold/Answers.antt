@@ -6,11 +6,11 @@ use mathlib.Core.Path.{refl, ◌∙◌}
 use Rattle.search_checks.proofs.Loops.{every-step, every-end}
 use Rattle.search_checks.proofs.minimums_hold.Goals as goal
 
-pub loop-i-init : goal.loop-i-init
-loop-i-init c = refl
+pub loop-m-init : goal.loop-m-init
+loop-m-init c = refl
 
-pub loop-i-preserved : goal.loop-i-preserved
-loop-i-preserved c = let l = c.loop-i in every-step _ _ nan l.ok _ l.i (omega arith) (in-bound-tests _) ∙ l.invariant
+pub loop-m-preserved : goal.loop-m-preserved
+loop-m-preserved c = let l = c.loop-m in every-step _ _ nan l.ok _ l.m-index (omega arith) (in-bound-tests _) ∙ l.invariant
 
 pub returns : goal.returns
-returns c = let l = c.loop-i in every-end _ _ nan l.ok l.i _ c.loop-i-test.false l.invariant
+returns c = let l = c.loop-m in every-end _ _ nan l.ok l.m-index _ (omega arith) l.invariant

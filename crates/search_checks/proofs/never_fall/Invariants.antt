@@ -1,13 +1,10 @@
 -- `search_checks::never_fall` meets its contract. The test of what is left, with what was found so far, is the test of all.
-use Prim.Native.Nat.{◌-◌, ◌≤◌}
+use Prim.Native.Nat.{◌-◌}
 use mathlib.Core.Path.{◌≡◌}
 use mathlib.Core.Bool.{◌&&◌}
-use lib.ListN.{length, drop}
+use lib.ListN.{drop}
 use Rattle.sequences.specs.Lists.{never_falls}
 use Rattle.search_checks.proofs.never_fall.Given as goal
 
 abbrev pub invariant-loop-i : goal.invariant-loop-i
-invariant-loop-i l = (1 ≤ l.i) × ((l.ok && never_falls (drop (l.i - 1) l.component_offsets)) ≡ never_falls l.component_offsets)
-
-abbrev pub decreases-loop-i : goal.decreases-loop-i
-decreases-loop-i l = length l.component_offsets - l.i
+invariant-loop-i l = (l.ok && never_falls (drop (l.i - 1) l.component_offsets)) ≡ never_falls l.component_offsets

@@ -5,10 +5,10 @@ use Rattle.search_checks.proofs.Loops.{rise-step, rise-end}
 use Rattle.search_checks.proofs.strictly_rise.Goals as goal
 
 pub loop-i-init : goal.loop-i-init
-loop-i-init c = (omega arith, refl)
+loop-i-init c = refl
 
 pub loop-i-preserved : goal.loop-i-preserved
-loop-i-preserved c = let l = c.loop-i in (omega arith, rise-step l.ok _ l.i l.invariant.0 (omega arith) ∙ l.invariant.1)
+loop-i-preserved c = let l = c.loop-i in rise-step l.ok _ l.i (omega arith) (omega arith) ∙ l.invariant
 
 pub returns : goal.returns
-returns c = let l = c.loop-i in rise-end l.ok _ l.i l.invariant.0 _ c.loop-i-test.false l.invariant.1
+returns c = let l = c.loop-i in rise-end l.ok _ l.i (omega arith) _ (omega arith) l.invariant

@@ -4,10 +4,10 @@ use native.Mathlib.Omega.{arith}
 use Rattle.search_page.proofs.terms.Goals as goal
 
 pub loop-k-init : goal.loop-k-init
-loop-k-init c = (omega arith, omega arith, refl)
+loop-k-init c = refl
 
 pub loop-k-preserved : goal.loop-k-preserved
-loop-k-preserved c = let l = c.loop-k in (omega arith, omega arith, l.invariant.2 ∙ c.term-t.ensures)
+loop-k-preserved c = let l = c.loop-k in l.invariant ∙ c.term-t.ensures
 
 pub returns : goal.returns
-returns c = let a = (c.args) in let l = c.loop-k in let z : l.k ≡ a.e = omega arith in rw z at l.invariant.2
+returns c = let a = (c.args) in let l = c.loop-k in let z : l.k ≡ a.e = omega arith in rw z at l.invariant

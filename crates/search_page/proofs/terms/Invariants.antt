@@ -1,11 +1,7 @@
 -- `search_page::terms`: going on through what is left is going on from the first place.
 use mathlib.Core.Path.{◌≡◌}
-use Prim.Native.Nat.{◌≤◌, ◌-◌}
 use Rattle.search_page.proofs.Laws.{through_from}
 use Rattle.search_page.proofs.terms.Given as goal
 
 abbrev pub invariant-loop-k : goal.invariant-loop-k
-invariant-loop-k l = (l.i ≤ l.k) × (l.k ≤ l.e) × (through_from l.sieve l.query_components l.query_values l.components l.values l.i l.initial.t ≡ through_from l.sieve l.query_components l.query_values l.components l.values l.k l.t)
-
-abbrev pub decreases-loop-k : goal.decreases-loop-k
-decreases-loop-k l = l.e - l.k
+invariant-loop-k l = (through_from l.sieve l.query_components l.query_values l.components l.values l.i l.initial.t ≡ through_from l.sieve l.query_components l.query_values l.components l.values l.k l.t)
