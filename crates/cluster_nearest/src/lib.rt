@@ -61,19 +61,14 @@ pub fn first_above_zero(centroids: &[u64], sums: &[f32]) -> DocumentId
         centroid: DocumentId(centroids[0]),
         score: 0.0,
     };
-    let mut i = 0usize;
-    while i < centroids.len() {
-        if sums.len() <= i {
-            return best.centroid;
-        }
+    for (&centroid, &sum) in centroids.iter().zip(sums) {
         best = if_greater(
             best,
             Candidate {
-                centroid: DocumentId(centroids[i]),
-                score: sums[i],
+                centroid: DocumentId(centroid),
+                score: sum,
             },
         );
-        i += 1;
     }
     best.centroid
 }
@@ -83,19 +78,14 @@ fn last_of(first: Candidate, centroids: &[u64], sums: &[f32]) -> Candidate
     ensures { result ≡ foldl if_no_less first (zip_with candidate centroids.now sums.now) }
 {
     let mut best = first;
-    let mut k = 0usize;
-    while k < centroids.len() {
-        if sums.len() <= k {
-            return best;
-        }
+    for (&centroid, &score) in centroids.iter().zip(sums) {
         best = if_no_less(
             best,
             Candidate {
-                centroid: DocumentId(centroids[k]),
-                score: sums[k],
+                centroid: DocumentId(centroid),
+                score: score,
             },
         );
-        k += 1;
     }
     best
 }
@@ -105,10 +95,8 @@ fn all_below(x: f32, sums: &[f32]) -> bool
     ensures { result ≡ every (λ s. lt s x) sums.now }
 {
     let mut ok = true;
-    let mut i = 0usize;
-    while i < sums.len() {
-        ok = ok & (sums[i] < x);
-        i += 1;
+    for &score in sums {
+        ok = ok & (score < x);
     }
     ok
 }
@@ -130,6 +118,7 @@ pub fn last_greatest(otherwise: DocumentId, centroids: &[u64], sums: &[f32]) -> 
     };
     let n = shorter(centroids.len(), sums.len());
     let mut i = 1usize;
+    // sixteen at a time by place, since those that are left over follow after the loop
     while 16 <= n - i {
         let end = i + 16;
         if !all_below(best.score, &sums[i..end]) {
@@ -159,14 +148,12 @@ pub fn nearest_to(
 {
     clearing::clear_f32(sums);
     let p = cluster_index::places_of(offsets, components, values, id);
-    let from = p.from;
-    let to = p.to;
     cluster_index::add_terms(
         starts,
         slots,
         weights,
-        &components[from..to],
-        &values[from..to],
+        &components[p.from..p.to],
+        &values[p.from..p.to],
         sums,
     );
     first_above_zero(centroids, sums)
@@ -176,14 +163,9 @@ pub fn nearest_to(
 fn write_keys(components: &[u32], values: &[f32], keys: &mut [u64])
     ensures { keys.new ≡ sets keys.old 0 (map term_key (paired components.now values.now)) }
 {
-    let mut i = 0usize;
-    while i < components.len() {
-        if values.len() <= i {
-            return;
-        }
+    for i in 0..components.len().min(values.len()) {
         let key = term_keys::term_key(components[i], values[i]);
         cells::put_u64(keys, i, key);
-        i += 1;
     }
 }
 
@@ -217,8 +199,11 @@ pub fn largest_keys(
         values.now) id.0)) }
 {
     let p = cluster_index::places_of(offsets, components, values, id);
-    let from = p.from;
-    let to = p.to;
-    let n = sort_keys(cut as usize, &components[from..to], &values[from..to], keys);
+    let n = sort_keys(
+        cut as usize,
+        &components[p.from..p.to],
+        &values[p.from..p.to],
+        keys,
+    );
     shorter(cut as usize, n)
 }

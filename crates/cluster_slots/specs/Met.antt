@@ -1,14 +1,14 @@
 -- The entries of the index that terms meet, and what is found and set back by them alone.
 use Rattle.std.specs.Prelude.{ℕ, zero, suc, ◌-◌, ◌≡◌, Bool, false, not, ◌&&◌, ◌||◌, cond, length, get_or, set, take, drop, replicate, leb, ltb, eqb, pos, Float}
+use Rattle.std.proofs.Common.{Option, Some, None}
 use mathlib.Core.List.{List, [], ◌∷◌, ◌++◌, map, foldl}
 use Rattle.std.specs.Float.{nan, fin}
+use Rattle.number_types.specs.declared.CentroidSlot.{CentroidSlot}
 use Rattle.float32.specs.Order.{at_most}
 use Rattle.documents.specs.Documents.{Term, Documents, terms}
 use Rattle.cluster_index.specs.Index.{add_terms}
 use Rattle.cluster_nearest.specs.Nearest.{last_no_less}
 use Rattle.cluster_slots.specs.declared.Best.{Best}
-use Rattle.cluster_slots.specs.declared.LastSlot.{LastSlot}
-use Rattle.cluster_slots.specs.declared.LastSlot.TheVariants.{At, Nowhere}
 
 -- the slots that a term meets: those of its component's entries
 abbrev pub slots_of : Documents → Term → List ℕ
@@ -50,9 +50,9 @@ from_zero xs zero = zero
 from_zero xs (suc n) = cond (at_most none (get_or xs n nan)) (suc n) (from_zero xs n)
 
 -- the slot before a place, of which there is none before the first
-abbrev pub last_before : ℕ → LastSlot
-last_before zero = Nowhere
-last_before (suc n) = At (record { 0 = n })
+abbrev pub last_before : ℕ → Option CentroidSlot
+last_before zero = None
+last_before (suc n) = Some (record { 0 = n })
 
 -- ---- the centroid that is chosen
 -- by the place of the last slot from +0 on; where there is none, by all slots

@@ -7,7 +7,7 @@ ghost use mathlib.Core.List.{map, foldl};
 ghost use Rattle.documents.specs.Documents.{documents};
 ghost use Rattle.documents.specs.TermKeys.{term_of};
 ghost use Rattle.cluster_index.specs.Index.{add_terms};
-ghost use Rattle.cluster_slots.specs.Met.{met, if_better, better, best_met, from_zero, last_before, chosen, clear_at, clear_met, chosen_by, set_back, nearest_by_keys, scores_after};
+ghost use Rattle.cluster_slots.specs.Met.{slots_of, met, if_better, better, best_met, from_zero, last_before, chosen, clear_at, clear_met, chosen_by, set_back, nearest_by_keys, scores_after};
 
 use cells::shorter;
 use number_types::{CentroidSlot, DocumentId};
@@ -55,12 +55,23 @@ fn best_slot(best: Best, slots: &[u64], sums: &[f32]) -> Best
     ensures { result ≡ foldl (better sums.now) best slots.now }
 {
     let mut b = best;
-    let mut i = 0usize;
-    while i < slots.len() {
-        b = best_of(b, CentroidSlot(slots[i]), sums);
-        i += 1;
+    for &slot in slots {
+        b = best_of(b, CentroidSlot(slot), sums);
     }
     b
+}
+
+// The slots that the term with a key meets: those of its component's entries.
+fn slots_met<'a>(starts: &[u64], slots: &'a [u64], weights: &[f32], key: u64) -> &'a [u64]
+    ensures { result.now ≡ slots_of (documents starts.now slots.now weights.now) (term_of key) }
+{
+    let p = cluster_index::entries_of(
+        starts,
+        slots,
+        weights,
+        term_keys::component_of_term_key(key),
+    );
+    &slots[p.from..p.to]
 }
 
 // The best of the slots that the terms with these keys meet; slot 0 with a score of +0 where none is better.
@@ -71,37 +82,22 @@ fn best_met(starts: &[u64], slots: &[u64], weights: &[f32], keys: &[u64], sums: 
         slot: CentroidSlot(0),
         score: 0.0,
     };
-    let mut i = 0usize;
-    while i < keys.len() {
-        let component = term_keys::component_of_term_key(keys[i]);
-        let p = cluster_index::entries_of(starts, slots, weights, component);
-        let from = p.from;
-        let to = p.to;
-        b = best_slot(b, &slots[from..to], sums);
-        i += 1;
+    for &key in keys {
+        b = best_slot(b, slots_met(starts, slots, weights, key), sums);
     }
     b
 }
 
-// The last slot of those asked for, if there is one.
-#[derive(Drop)]
-enum LastSlot {
-    At(CentroidSlot),
-    Nowhere,
-}
-
-// The last slot whose score is at least +0 by total order. It takes as many steps as slots after that one.
-fn last_from_zero(sums: &[f32]) -> LastSlot
+// The last slot whose score is at least +0 by total order, if there is one. It takes as many steps as slots after that one.
+fn last_from_zero(sums: &[f32]) -> Option<CentroidSlot>
     ensures { result ≡ last_before (from_zero sums.now (length sums.now)) }
 {
-    let mut k = sums.len();
-    while 0 < k {
-        if float32::at_most(0.0, sums[k - 1]) {
-            return LastSlot::At(CentroidSlot((k - 1) as u64));
+    for k in (0..sums.len()).rev() {
+        if float32::at_most(0.0, sums[k]) {
+            return Some(CentroidSlot(k as u64));
         }
-        k -= 1;
     }
-    LastSlot::Nowhere
+    None
 }
 
 // The centroid of the best slot met, if its score is above +0. Else no score is above +0, and the last slot whose score is at least +0 has
@@ -126,11 +122,11 @@ fn choose(
         return DocumentId(competing[at]);
     }
     match last_from_zero(sums) {
-        LastSlot::At(slot) => {
+        Some(slot) => {
             let at = slot.0 as usize;
             DocumentId(competing[at])
         }
-        LastSlot::Nowhere => cluster_nearest::last_greatest(otherwise, competing, sums),
+        None => cluster_nearest::last_greatest(otherwise, competing, sums),
     }
 }
 
@@ -148,10 +144,8 @@ fn clear_slot(slot: CentroidSlot, sums: &mut [f32])
 fn clear_slots(slots: &[u64], sums: &mut [f32])
     ensures { sums.new ≡ foldl clear_at sums.old slots.now }
 {
-    let mut i = 0usize;
-    while i < slots.len() {
-        clear_slot(CentroidSlot(slots[i]), sums);
-        i += 1;
+    for &slot in slots {
+        clear_slot(CentroidSlot(slot), sums);
     }
 }
 
@@ -159,14 +153,8 @@ fn clear_slots(slots: &[u64], sums: &mut [f32])
 fn clear_met(starts: &[u64], slots: &[u64], weights: &[f32], keys: &[u64], sums: &mut [f32])
     ensures { sums.new ≡ clear_met (documents starts.now slots.now weights.now) sums.old (map term_of keys.now) }
 {
-    let mut i = 0usize;
-    while i < keys.len() {
-        let component = term_keys::component_of_term_key(keys[i]);
-        let p = cluster_index::entries_of(starts, slots, weights, component);
-        let from = p.from;
-        let to = p.to;
-        clear_slots(&slots[from..to], sums);
-        i += 1;
+    for &key in keys {
+        clear_slots(slots_met(starts, slots, weights, key), sums);
     }
 }
 
@@ -175,16 +163,12 @@ fn meets_many(starts: &[u64], slots: &[u64], weights: &[f32], keys: &[u64], many
     ensures { result ≡ leb many (length (met (documents starts.now slots.now weights.now) (map term_of keys.now))) }
 {
     let mut left = many;
-    let mut i = 0usize;
-    while i < keys.len() {
-        let component = term_keys::component_of_term_key(keys[i]);
-        let p = cluster_index::entries_of(starts, slots, weights, component);
-        let size = p.to - p.from;
+    for &key in keys {
+        let size = slots_met(starts, slots, weights, key).len();
         if left <= size {
             return true;
         }
         left -= size;
-        i += 1;
     }
     left == 0
 }

@@ -4,6 +4,7 @@ use native.Mathlib.Omega.{arith}
 use mathlib.Core.Path.{refl, sym, ◌∙◌}
 use borrow.Author.Rules.{rules}
 use borrow.Author.Tests.{not-false}
+use Rattle.cluster_nearest.specs.Nearest.{candidate}
 use Rattle.cluster_nearest.specs.Laws.Ends.{last-none-left, last-none-right, last_end}
 use Rattle.cluster_nearest.specs.Laws.Passed.{fold-taken, taken-fits, fold-passed, none-past}
 use Rattle.cluster_nearest.proofs.last_greatest.Goals as goal
@@ -39,5 +40,5 @@ pub returns : goal.returns
 returns c =
     let a = c.args in let l = c.loop-i in let n = c.shorter-n.result in let t = c.last_of-best-2 in
     last_end _ a.centroids.now a.sums.now n t.result c.if-centroids-eq0.false c.if-sums-eq0.false
-    (none-past a.centroids.now a.sums.now n c.shorter-n.ensures)
+    (none-past candidate a.centroids.now a.sums.now n (omega (arith, c.shorter-n.ensures)))
     (fold-taken l.best t.result a.centroids.now a.sums.now l.i n l.invariant.0 t.ensures ∙ l.invariant.2)

@@ -1,15 +1,13 @@
 -- `cluster_nearest::write_keys` meets its contract.
 use lib.Seq.{sets}
-use Rattle.documents.specs.Documents.{paired}
-use Rattle.documents.specs.TermKeys.{term_key}
+use lib.ListN.{drop}
 use mathlib.Core.Path.{◌≡◌}
 use mathlib.Core.List.{map}
-use Prim.Native.Nat.{◌-◌}
-use lib.ListN.{length, drop}
+use Rattle.documents.specs.Documents.{paired}
+use Rattle.documents.specs.TermKeys.{term_key}
 use Rattle.cluster_nearest.proofs.write_keys.Given as goal
 
 abbrev pub invariant-loop-i : goal.invariant-loop-i
-invariant-loop-i l = (length l.keys ≡ length l.initial.keys) × (sets l.keys l.i (map term_key (paired (drop l.i l.components) (drop l.i l.values))) ≡ sets l.initial.keys 0 (map term_key (paired l.components l.values)))
-
-abbrev pub decreases-loop-i : goal.decreases-loop-i
-decreases-loop-i l = length l.components - l.i
+invariant-loop-i l =
+    sets l.keys l.i (map term_key (paired (drop l.i l.components) (drop l.i l.values)))
+    ≡ sets l.initial.keys 0 (map term_key (paired l.components l.values))

@@ -12,11 +12,11 @@ unfolding first_above zip_with
 first-none [] xs h = refl
 first-none (c ∷ cs) xs h = absurd (let z : ⊥ = omega arith in z)
 
-pub first-end : (cs : List ℕ) (xs : List Float) (i : ℕ) (best : Candidate) → (length cs ≡ 0 → ⊥) → zip_with candidate (drop i cs) (drop i xs) ≡ []
-    → foldl if_greater best (zip_with candidate (drop i cs) (drop i xs)) ≡ foldl if_greater (candidate (get_or cs 0 0) (of_bits binary32 0)) (zip_with candidate cs xs) → centroid_of best ≡ first_above cs xs
+pub first-end : (cs : List ℕ) (xs : List Float) (best : Candidate) (left : List Candidate) → (length cs ≡ 0 → ⊥) → left ≡ []
+    → foldl if_greater best left ≡ foldl if_greater (candidate (get_or cs 0 0) (of_bits binary32 0)) (zip_with candidate cs xs) → centroid_of best ≡ first_above cs xs
 unfolding first_above of_bits
-first-end [] xs i best n e h = absurd (n refl)
-first-end (c ∷ cs) xs i best n e h = ap centroid_of (sym (ap (foldl if_greater best) e) ∙ h)
+first-end [] xs best left n e h = absurd (n refl)
+first-end (c ∷ cs) xs best left n e h = ap centroid_of (sym (ap (foldl if_greater best) e) ∙ h)
 
 pub last-none-left : (first : ℕ) (cs : List ℕ) (xs : List Float) → length cs ≡ 0 → first ≡ last_no_less first cs xs
 unfolding last_no_less zip_with

@@ -17,19 +17,22 @@ use Rattle.documents.specs.Documents.{Term, term, paired, Documents, start, size
 use Rattle.documents.specs.TermKeys.{term_key, term_of}
 use Rattle.documents.specs.Laws.TermKeys.{Held, term-key-order, term-back, held-paired}
 use Rattle.documents.specs.Laws.Places.{terms-part}
-use Rattle.cluster_index.specs.Laws.Walks.{walk_step}
+use Rattle.counting_sort.specs.Laws.Loops.{zip-step}
 use Rattle.cluster_nearest.specs.Keys.{KeysLeft}
+use Rattle.cluster_nearest.specs.Laws.Passed.{none-past}
 
 -- ---- keys written one after another
 pub write_step : (cs : List ℕ) (vs : List Float) (ks ns : List ℕ) (i k : ℕ) → i < length cs → i < length vs → k ≡ term_key (term (get_or cs i 0) (get_or vs i nan)) → ns ≡ set ks i k
     → sets ns (i + 1) (map term_key (paired (drop (i + 1) cs) (drop (i + 1) vs))) ≡ sets ks i (map term_key (paired (drop i cs) (drop i vs)))
+unfolding paired
 write_step cs vs ks ns i k h g e f =
     ap (λ l. sets l (i + 1) (map term_key (paired (drop (i + 1) cs) (drop (i + 1) vs)))) (f ∙ ap (set ks i) e)
     ∙ ap (λ n. sets (set ks i (term_key (term (get_or cs i 0) (get_or vs i nan)))) n (map term_key (paired (drop (i + 1) cs) (drop (i + 1) vs)))) (add-one i)
-    ∙ ap (λ l. sets ks i (map term_key l)) (sym (walk_step cs vs i nan h g))
+    ∙ ap (λ l. sets ks i (map term_key l)) (sym (zip-step term cs vs i 0 nan h g))
 
-pub write-end : (ks : List ℕ) (i : ℕ) (ts : List Term) → ts ≡ [] → sets ks i (map term_key ts) ≡ ks
-write-end ks i ts e = ap (λ l. sets ks i (map term_key l)) e
+pub write-end : (cs : List ℕ) (vs : List Float) (ks : List ℕ) (i : ℕ) → min (length cs) (length vs) ≤ i → sets ks i (map term_key (paired (drop i cs) (drop i vs))) ≡ ks
+unfolding paired
+write-end cs vs ks i h = ap (λ l. sets ks i (map term_key l)) (none-past term cs vs i h)
 
 -- ---- numbers laid over a slice of any length
 over-front : (p xs l : List ℕ) → sets (p ++ l) (length p) xs ≡ p ++ (take (length l) xs ++ drop (length xs) l)

@@ -102,6 +102,6 @@ module _ (best : Candidate) (f : Fits best) (cs : List ℕ) (xs : List Float) (g
       → foldl if_no_less best (zip_with candidate (drop e cs) (drop e xs)) ≡ foldl if_no_less best (zip_with candidate (drop i cs) (drop i xs))
   fold-passed h t = fold-taken best best cs xs i e h (sym (passed best f (take (e - i) (drop i cs)) (take (e - i) (drop i xs)) (part-fits i (e - i) xs g) t))
 
--- past the shorter of the two lists there is none
-pub none-past : (cs : List ℕ) (xs : List Float) (n : ℕ) → n ≡ min (length cs) (length xs) → zip_with candidate (drop n cs) (drop n xs) ≡ []
-none-past cs xs n e = ⊎_elim (zip-left candidate cs xs n) (λ h. zip-right candidate cs xs n (omega arith)) (le-or-lt (length cs) n)
+-- past the shorter of two lists there is none
+pub none-past : {A B C : Type 0} (f : A → B → C) (xs : List A) (ys : List B) (n : ℕ) → min (length xs) (length ys) ≤ n → zip_with f (drop n xs) (drop n ys) ≡ []
+none-past f xs ys n h = ⊎_elim (zip-left f xs ys n) (λ k. zip-right f xs ys n (omega arith)) (le-or-lt (length xs) n)

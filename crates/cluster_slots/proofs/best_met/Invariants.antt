@@ -1,15 +1,13 @@
 -- `cluster_slots::best_met` meets its contract.
 use mathlib.Core.Path.{◌≡◌}
-use Prim.Native.Nat.{◌-◌}
 use mathlib.Core.List.{map, foldl}
-use lib.ListN.{length, drop}
+use lib.ListN.{drop}
 use Rattle.documents.specs.Documents.{documents}
 use Rattle.documents.specs.TermKeys.{term_of}
 use Rattle.cluster_slots.specs.Met.{met, none, best, better}
 use Rattle.cluster_slots.proofs.best_met.Given as goal
 
-abbrev pub invariant-loop-i : goal.invariant-loop-i
-invariant-loop-i l = foldl (better l.sums) l.b (met (documents l.starts l.slots l.weights) (map term_of (drop l.i l.keys))) ≡ foldl (better l.sums) (best 0 none) (met (documents l.starts l.slots l.weights) (map term_of l.keys))
-
-abbrev pub decreases-loop-i : goal.decreases-loop-i
-decreases-loop-i l = length l.keys - l.i
+abbrev pub invariant-loop-key : goal.invariant-loop-key
+invariant-loop-key l =
+    foldl (better l.sums) l.b (met (documents l.starts l.slots l.weights) (map term_of (drop l.key-index l.keys)))
+    ≡ foldl (better l.sums) (best 0 none) (met (documents l.starts l.slots l.weights) (map term_of l.keys))

@@ -33,36 +33,36 @@ returns-then-not-at_most c =
     let t = c.at_most in
     chosen-above a.otherwise.0 a.competing.now (documents a.starts.now a.slots.now a.weights.now) a.sums.now (map term_of a.keys.now) c.requires b.result b.ensures t.result t.ensures (not-true _ c.if-not-at_most.true-raw)
 
-pub offset_bounds-competing-at-in-At : goal.offset_bounds-competing-at-in-At
+pub offset_bounds-competing-at-in-Some : goal.offset_bounds-competing-at-in-Some
 unfolding of_bits
-offset_bounds-competing-at-in-At c =
+offset_bounds-competing-at-in-Some c =
     let a = c.args in
     let b = c.best_met-best in
     let t = c.at_most in
-    scaled_Fits _ (length a.competing.now) 8 (last_within a.otherwise.0 a.competing.now (documents a.starts.now a.slots.now a.weights.now) a.sums.now (map term_of a.keys.now) c.requires b.result b.ensures t.result t.ensures c.last_from_zero.result c.last_from_zero.ensures _ c.in-At.is) c.well_formed.1.0.1
+    scaled_Fits _ (length a.competing.now) 8 (last_within a.otherwise.0 a.competing.now (documents a.starts.now a.slots.now a.weights.now) a.sums.now (map term_of a.keys.now) c.requires b.result b.ensures t.result t.ensures c.last_from_zero.result c.last_from_zero.ensures _ c.in-Some.is) c.well_formed.1.0.1
 
-pub bounds-competing-at-in-At : goal.bounds-competing-at-in-At
+pub bounds-competing-at-in-Some : goal.bounds-competing-at-in-Some
 unfolding of_bits
-bounds-competing-at-in-At c =
+bounds-competing-at-in-Some c =
     let a = c.args in
     let b = c.best_met-best in
     let t = c.at_most in
-    last_within a.otherwise.0 a.competing.now (documents a.starts.now a.slots.now a.weights.now) a.sums.now (map term_of a.keys.now) c.requires b.result b.ensures t.result t.ensures c.last_from_zero.result c.last_from_zero.ensures _ c.in-At.is
+    last_within a.otherwise.0 a.competing.now (documents a.starts.now a.slots.now a.weights.now) a.sums.now (map term_of a.keys.now) c.requires b.result b.ensures t.result t.ensures c.last_from_zero.result c.last_from_zero.ensures _ c.in-Some.is
 
-pub returns-in-At : goal.returns-in-At
+pub returns-in-Some : goal.returns-in-Some
 unfolding of_bits
-returns-in-At c =
+returns-in-Some c =
     let a = c.args in
     let b = c.best_met-best in
     let t = c.at_most in
-    chosen_last a.otherwise.0 a.competing.now (documents a.starts.now a.slots.now a.weights.now) a.sums.now (map term_of a.keys.now) c.requires b.result b.ensures t.result t.ensures c.last_from_zero.result c.last_from_zero.ensures (not-false _ c.if-not-at_most.false-raw) _ c.in-At.is
+    chosen_last a.otherwise.0 a.competing.now (documents a.starts.now a.slots.now a.weights.now) a.sums.now (map term_of a.keys.now) c.requires b.result b.ensures t.result t.ensures c.last_from_zero.result c.last_from_zero.ensures (not-false _ c.if-not-at_most.false-raw) _ c.in-Some.is
 
-pub returns-in-Nowhere : goal.returns-in-Nowhere
+pub returns-in-None : goal.returns-in-None
 unfolding of_bits
-returns-in-Nowhere c =
+returns-in-None c =
     let a = c.args in
     let b = c.best_met-best in
     let t = c.at_most in
     chosen-all a.otherwise.0 a.competing.now (documents a.starts.now a.slots.now a.weights.now) a.sums.now (map term_of a.keys.now) c.requires
     b.result b.ensures t.result t.ensures c.last_from_zero.result c.last_from_zero.ensures (not-false _ c.if-not-at_most.false-raw)
-    c.in-Nowhere.is c.last_greatest.result.0 c.last_greatest.ensures
+    c.in-None.is c.last_greatest.result.0 c.last_greatest.ensures

@@ -1,12 +1,8 @@
 -- `cluster_slots::last_from_zero` meets its contract.
 use mathlib.Core.Path.{◌≡◌}
-use Prim.Native.Nat.{◌≤◌}
 use lib.ListN.{length}
 use Rattle.cluster_slots.specs.Met.{from_zero}
 use Rattle.cluster_slots.proofs.last_from_zero.Given as goal
 
 abbrev pub invariant-loop-k : goal.invariant-loop-k
-invariant-loop-k l = (l.k ≤ length l.sums) × (from_zero l.sums l.k ≡ from_zero l.sums l.initial.k)
-
-abbrev pub decreases-loop-k : goal.decreases-loop-k
-decreases-loop-k l = l.k
+invariant-loop-k l = from_zero l.sums l.k ≡ from_zero l.sums (length l.sums)

@@ -1,5 +1,4 @@
 -- `cluster_slots::meets_many` meets its contract.
-use Prim.Native.Nat.{◌-◌}
 use mathlib.Core.Path.{◌≡◌}
 use mathlib.Core.List.{map}
 use lib.ListN.{length, drop}
@@ -9,8 +8,7 @@ use Rattle.documents.specs.TermKeys.{term_of}
 use Rattle.cluster_slots.specs.Met.{met}
 use Rattle.cluster_slots.proofs.meets_many.Given as goal
 
-abbrev pub invariant-loop-i : goal.invariant-loop-i
-invariant-loop-i l = leb l.left (length (met (documents l.starts l.slots l.weights) (map term_of (drop l.i l.keys)))) ≡ leb l.many (length (met (documents l.starts l.slots l.weights) (map term_of l.keys)))
-
-abbrev pub decreases-loop-i : goal.decreases-loop-i
-decreases-loop-i l = length l.keys - l.i
+abbrev pub invariant-loop-key : goal.invariant-loop-key
+invariant-loop-key l =
+    leb l.left (length (met (documents l.starts l.slots l.weights) (map term_of (drop l.key-index l.keys))))
+    ≡ leb l.many (length (met (documents l.starts l.slots l.weights) (map term_of l.keys)))

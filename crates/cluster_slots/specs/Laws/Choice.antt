@@ -1,6 +1,6 @@
 -- What the choice comes to by its tests, one after another.
 use Rattle.std.specs.Prelude.{ℕ, zero, suc, ◌-◌, ◌≤◌, ◌<◌, min, ◌≡◌, refl, Bool, true, false, List, ◌++◌, length, get_or, take, drop, replicate, leb, Float}
-use Rattle.std.proofs.Common.{arith, sym, ◌∙◌, ne_eqb}
+use Rattle.std.proofs.Common.{arith, sym, ◌∙◌, ne_eqb, Option, Some, None}
 use Rattle.std.proofs.Math.Path.{ap}
 use Rattle.std.proofs.Math.Bool.{cond}
 use Rattle.sequences.specs.Laws.Lists.{cut-is}
@@ -10,17 +10,15 @@ use Rattle.cluster_index.specs.Index.{add_terms}
 use Rattle.cluster_nearest.specs.Nearest.{last_no_less}
 use Rattle.number_types.specs.declared.CentroidSlot.{CentroidSlot}
 use Rattle.cluster_slots.specs.declared.Best.{Best}
-use Rattle.cluster_slots.specs.declared.LastSlot.{LastSlot}
-use Rattle.cluster_slots.specs.declared.LastSlot.TheVariants.{At, Nowhere}
 use Rattle.cluster_slots.specs.Met.{met, none, best_met, from_zero, last_before, none_above, chosen, clear_met, chosen_by, set_back, nearest_by_keys, scores_after}
 use Rattle.cluster_slots.specs.Laws.Loops.{cut-rest, best-above, from-zero-within}
 
 -- ---- the slot before a place
-slot-before : (n : ℕ) (l : LastSlot) (s : CentroidSlot) → l ≡ last_before n → l ≡ At s → n ≡ suc s.0
+slot-before : (n : ℕ) (l : Option CentroidSlot) (s : CentroidSlot) → l ≡ last_before n → l ≡ Some s → n ≡ suc s.0
 slot-before zero l s p q = absurd (let z : ◌≡◌ {A = ℕ} 0 1 = cc in let y : ⊥ = omega arith in y)
 slot-before (suc n) l s p q = let e : record { 0 = n } ≡ s = cc in ap (λ z. suc z.0) e
 
-nothing-before : (n : ℕ) (l : LastSlot) → l ≡ last_before n → l ≡ Nowhere → n ≡ 0
+nothing-before : (n : ℕ) (l : Option CentroidSlot) → l ≡ last_before n → l ≡ None → n ≡ 0
 nothing-before zero l p q = refl
 nothing-before (suc n) l p q = absurd (let z : ◌≡◌ {A = ℕ} 0 1 = cc in let y : ⊥ = omega arith in y)
 
@@ -47,18 +45,18 @@ module _ (first : ℕ) (cs : List ℕ) (index : Documents) (xs : List Float) (qs
   by-past : (past : ℕ) → past ≡ from_zero xs (length xs) → u ≡ true → chosen first cs index xs qs ≡ none_above first cs xs past
   by-past past k h = by-test ∙ ap (λ z. cond z (none_above first cs xs (from_zero xs (length xs))) (get_or cs b.slot.0 0)) h ∙ ap (none_above first cs xs) (sym k)
 
-  module _ (l : LastSlot) (k : l ≡ last_before (from_zero xs (length xs))) where
-    pub last_within : (s : CentroidSlot) → l ≡ At s → s.0 < length cs
+  module _ (l : Option CentroidSlot) (k : l ≡ last_before (from_zero xs (length xs))) where
+    pub last_within : (s : CentroidSlot) → l ≡ Some s → s.0 < length cs
     last_within s e = let w = from-zero-within xs (length xs) in let z = slot-before (from_zero xs (length xs)) l s k e in omega arith
 
-    pub chosen_last : u ≡ true → (s : CentroidSlot) → l ≡ At s → get_or cs s.0 0 ≡ chosen first cs index xs qs
+    pub chosen_last : u ≡ true → (s : CentroidSlot) → l ≡ Some s → get_or cs s.0 0 ≡ chosen first cs index xs qs
     chosen_last h s e =
         let z : suc s.0 ≡ from_zero xs (length xs) = sym (slot-before (from_zero xs (length xs)) l s k e) in
         let m : s.0 ≡ suc s.0 - 1 = omega arith in
         ap (λ n. get_or cs n 0) m
         ∙ sym (by-past (suc s.0) z h ∙ ap (λ t. cond t (last_no_less first cs xs) (get_or cs (suc s.0 - 1) 0)) (ne_eqb (suc s.0) 0 (λ q. omega arith)))
 
-    pub chosen-all : u ≡ true → l ≡ Nowhere → (r : ℕ) → r ≡ last_no_less first cs xs → r ≡ chosen first cs index xs qs
+    pub chosen-all : u ≡ true → l ≡ None → (r : ℕ) → r ≡ last_no_less first cs xs → r ≡ chosen first cs index xs qs
     chosen-all h e r g = g ∙ sym (by-past 0 (sym (nothing-before (from_zero xs (length xs)) l k e)) h)
 
 -- ---- by the entries met or by all scores

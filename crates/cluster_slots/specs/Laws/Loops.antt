@@ -1,8 +1,8 @@
 -- The loops over keys, slots and scores, one step at a time.
 use Rattle.std.specs.Prelude.{ℕ, zero, suc, ◌+◌, ◌-◌, ◌≤◌, ◌<◌, min, ◌≡◌, refl, ◌⊎◌, Bool, true, false, not, ◌&&◌, ◌||◌, cond, length, get_or, drop, T, leb, ltb, eqb, Float}
-use Rattle.std.proofs.Common.{arith, add-one, sym, ap, ◌∙◌, subst, inl, inr, drop_of_length-le, length-append, length-take, length-drop, drop-cons, lt-ltb, le-ltb, le-leb, ltb-true, ne_eqb}
+use Rattle.std.proofs.Common.{arith, add-one, sym, ap, ◌∙◌, subst, inl, inr, drop_of_length-le, length-append, drop-cons, lt-ltb, le-ltb, le-leb, ltb-true, ne_eqb}
 use Rattle.std.proofs.Math.Decide.{dec_le}
-use mathlib.Core.List.{List, [], ◌∷◌, ◌++◌, map, foldl, foldl-append}
+use mathlib.Core.List.{List, [], ◌∷◌, ◌++◌, map, foldl}
 use Rattle.std.proofs.lemmas.Bool.{lt-leb}
 use Rattle.std.specs.Float.{nan, binary32}
 use Rattle.std.specs.Float.Ieee.{fits}
@@ -15,8 +15,7 @@ use Rattle.documents.specs.TermKeys.{component_of, term_of}
 use Rattle.cluster_index.specs.Walks.{Cut}
 use Rattle.cluster_index.specs.Laws.Passes.{components-of}
 use Rattle.cluster_slots.specs.declared.Best.{Best}
-use Rattle.cluster_slots.specs.declared.LastSlot.TheVariants.{At, Nowhere}
-use Rattle.cluster_slots.specs.Met.{slots_of, met, none, best, gives_way, if_better, better, from_zero, last_before}
+use Rattle.cluster_slots.specs.Met.{slots_of, met, none, best, gives_way, if_better, better, from_zero}
 
 -- ---- one slot
 module _ (b : Best) (s : ℕ) (x : Float) (u v : Bool) (p : u ≡ at_most b.score x) where
@@ -41,39 +40,14 @@ module _ (xs : List Float) (b r : Best) (s : ℕ) where
   pub better-out : length xs ≤ s → b ≡ better xs b s
   better-out h = sym (ap (λ z. cond z (if_better b s (get_or xs s nan)) b) (le-ltb s (length xs) h))
 
--- ---- what the keys from a place on meet
-module _ {A : Type 0} (f : A → ℕ → A) (index : Documents) (ks : List ℕ) (i : ℕ) where
-  pub met-step : (c : ℕ) (p : TermPlaces) (a b : A) → i < length ks → c ≡ component_of (get_or ks i 0) → Cut index c p → b ≡ foldl f a (part p.from (p.to - p.from) index.components)
-      → foldl f b (met index (map term_of (drop (i + 1) ks))) ≡ foldl f a (met index (map term_of (drop i ks)))
-  met-step c p a b h e cut g =
-      let rest = met index (map term_of (drop (i + 1) ks)) in
-      let q = term_of (get_or ks i 0) in
-      let s : part p.from (p.to - p.from) index.components ≡ slots_of index q = sym (components-of index c p cut) ∙ ap (λ k. slots_of index (record { component = k; value = q.value })) e in
-      let m : slots_of index q ++ rest ≡ met index (map term_of (drop i ks)) = rw (add-one i, drop-cons ks i 0 h) in
-      ap (λ z. foldl f z rest) (g ∙ ap (foldl f a) s)
-      ∙ sym (foldl-append f a (slots_of index q) rest)
-      ∙ ap (foldl f a) m
+-- ---- what a key meets, and what the keys from a place on meet
+pub key-meets : (index : Documents) (k c : ℕ) (p : TermPlaces) → c ≡ component_of k → Cut index c p → part p.from (p.to - p.from) index.components ≡ slots_of index (term_of k)
+key-meets index k c p e cut = sym (components-of index c p cut) ∙ ap (λ j. slots_of index (record { component = j; value = (term_of k).value })) e
 
-  pub met-end : (a : A) → length ks ≤ i → foldl f a (met index (map term_of (drop i ks))) ≡ a
-  met-end a h = ap (λ l. foldl f a (met index (map term_of l))) (drop_of_length-le ks h)
+met-next : (index : Documents) (ks : List ℕ) (i : ℕ) → i < length ks → met index (map term_of (drop i ks)) ≡ slots_of index (term_of (get_or ks i 0)) ++ met index (map term_of (drop (i + 1) ks))
+met-next index ks i h = rw (add-one i, drop-cons ks i 0 h)
 
--- ---- the way back to the last slot from +0 on
-pub back_found : (xs : List Float) (k : ℕ) → 0 < k → at_most none (get_or xs (k - 1) nan) ≡ true → At (record { 0 = k - 1 }) ≡ last_before (from_zero xs k)
-back_found xs zero h e = absurd (let z : ⊥ = omega arith in z)
-back_found xs (suc k) h e =
-    let z : suc k - 1 ≡ k = omega arith in
-    ap (λ n. At (record { 0 = n })) z ∙ sym (ap (λ b. last_before (cond b (suc k) (from_zero xs k))) (ap (λ n. at_most none (get_or xs n nan)) (sym z) ∙ e))
-
-pub back_step : (xs : List Float) (k : ℕ) → 0 < k → at_most none (get_or xs (k - 1) nan) ≡ false → from_zero xs (k - 1) ≡ from_zero xs k
-back_step xs zero h e = absurd (let z : ⊥ = omega arith in z)
-back_step xs (suc k) h e =
-    let z : suc k - 1 ≡ k = omega arith in
-    ap (from_zero xs) z ∙ sym (ap (λ b. cond b (suc k) (from_zero xs k)) (ap (λ n. at_most none (get_or xs n nan)) (sym z) ∙ e))
-
-pub back_end : (xs : List Float) (k : ℕ) → k ≤ 0 → Nowhere ≡ last_before (from_zero xs k)
-back_end xs zero h = refl
-back_end xs (suc k) h = absurd (let z : ⊥ = omega arith in z)
-
+-- ---- the last slot from +0 on is among those looked at
 pub from-zero-within : (xs : List Float) (n : ℕ) → from_zero xs n ≤ n
 from-zero-within xs zero = omega arith
 from-zero-within xs (suc n) = go (at_most none (get_or xs n nan)) (from-zero-within xs n)
@@ -120,33 +94,26 @@ cut-rest xs m n e = go (dec_le m (length xs))
 
 -- ---- entries counted down
 module _ (index : Documents) (ks : List ℕ) (i : ℕ) where
-  met-size : (c : ℕ) (p : TermPlaces) → i < length ks → c ≡ component_of (get_or ks i 0) → Cut index c p
-      → length (met index (map term_of (drop i ks))) ≡ (p.to - p.from) + length (met index (map term_of (drop (i + 1) ks)))
-  met-size c p h e cut =
+  met-size : (s : List ℕ) → i < length ks → s ≡ slots_of index (term_of (get_or ks i 0)) → length (met index (map term_of (drop i ks))) ≡ length s + length (met index (map term_of (drop (i + 1) ks)))
+  met-size s h e =
       let rest = met index (map term_of (drop (i + 1) ks)) in
-      let q = term_of (get_or ks i 0) in
-      let s : slots_of index q ≡ part p.from (p.to - p.from) index.components = ap (λ k. slots_of index (record { component = k; value = q.value })) (sym e) ∙ components-of index c p cut in
-      let m : met index (map term_of (drop i ks)) ≡ slots_of index q ++ rest = rw (add-one i, drop-cons ks i 0 h) in
-      let l : length (part p.from (p.to - p.from) index.components) ≡ p.to - p.from =
-      length-take (p.to - p.from) (drop p.from index.components) ∙ (let z = length-drop p.from index.components in omega (arith, cut.ordered, cut.in_components)) in
-      ap length m ∙ length-append (slots_of index q) rest ∙ ap (λ n. n + length rest) (ap length s ∙ l)
+      ap length (met-next index ks i h) ∙ length-append (slots_of index (term_of (get_or ks i 0))) rest ∙ ap (λ n. length n + length rest) (sym e)
 
-  pub many-found : (c : ℕ) (p : TermPlaces) (left : ℕ) → i < length ks → c ≡ component_of (get_or ks i 0) → Cut index c p → left ≤ p.to - p.from → leb left (length (met index (map term_of (drop i ks))))
-      ≡ true
-  many-found c p left h e cut k = let z = met-size c p h e cut in le-leb left (length (met index (map term_of (drop i ks)))) (omega arith)
+  pub many-found : (s : List ℕ) (left : ℕ) → i < length ks → s ≡ slots_of index (term_of (get_or ks i 0)) → left ≤ length s → leb left (length (met index (map term_of (drop i ks)))) ≡ true
+  many-found s left h e k = let z = met-size s h e in le-leb left (length (met index (map term_of (drop i ks)))) (omega arith)
 
-  pub many-step : (c : ℕ) (p : TermPlaces) (left : ℕ) → i < length ks → c ≡ component_of (get_or ks i 0) → Cut index c p → p.to - p.from < left
-      → leb (left - (p.to - p.from)) (length (met index (map term_of (drop (i + 1) ks)))) ≡ leb left (length (met index (map term_of (drop i ks))))
-  many-step c p left h e cut k = go (dec_le (left - (p.to - p.from)) (length (met index (map term_of (drop (i + 1) ks)))))
+  pub many-step : (s : List ℕ) (left : ℕ) → i < length ks → s ≡ slots_of index (term_of (get_or ks i 0)) → length s < left
+      → leb (left - length s) (length (met index (map term_of (drop (i + 1) ks)))) ≡ leb left (length (met index (map term_of (drop i ks))))
+  many-step s left h e k = go (dec_le (left - length s) (length (met index (map term_of (drop (i + 1) ks)))))
     where
-      z : length (met index (map term_of (drop i ks))) ≡ (p.to - p.from) + length (met index (map term_of (drop (i + 1) ks)))
-      z = met-size c p h e cut
+      z : length (met index (map term_of (drop i ks))) ≡ length s + length (met index (map term_of (drop (i + 1) ks)))
+      z = met-size s h e
 
-      go : Dec (left - (p.to - p.from) ≤ length (met index (map term_of (drop (i + 1) ks)))) → leb (left - (p.to - p.from)) (length (met index (map term_of (drop (i + 1) ks))))
+      go : Dec (left - length s ≤ length (met index (map term_of (drop (i + 1) ks)))) → leb (left - length s) (length (met index (map term_of (drop (i + 1) ks))))
           ≡ leb left (length (met index (map term_of (drop i ks))))
       go (yes y) = le-leb _ _ y ∙ sym (le-leb left (length (met index (map term_of (drop i ks)))) (omega (arith, z)))
       go (no n) =
-          lt-leb (left - (p.to - p.from)) (length (met index (map term_of (drop (i + 1) ks)))) (omega arith)
+          lt-leb (left - length s) (length (met index (map term_of (drop (i + 1) ks)))) (omega arith)
           ∙ sym (lt-leb left (length (met index (map term_of (drop i ks)))) (omega (arith, z)))
 
   pub many-end : (left : ℕ) → length ks ≤ i → eqb left 0 ≡ leb left (length (met index (map term_of (drop i ks))))
