@@ -43,14 +43,10 @@ fn write_offsets(ids: u64, block_size: u64, blocks: usize, block_offsets: &mut [
     requires { (blocks ≡ ids / block_size) × (blocks < length block_offsets.old) × (blocks * block_size ≤ ids) }
     ensures { block_offsets.new ≡ in_front (fixed_offsets ids block_size) block_offsets.old }
 {
-    let mut start = 0;
-    let mut i = 0;
-    while i < blocks {
-        block_offsets[i] = start;
-        start += block_size;
-        i += 1;
+    for i in 0..blocks {
+        block_offsets[i] = i as u64 * block_size;
     }
-    block_offsets[i] = ids;
+    block_offsets[blocks] = ids;
 }
 
 // How many centroids a list of `ids` is to have: the fraction of its length, cut to a whole number, and at least 1.

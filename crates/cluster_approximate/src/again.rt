@@ -72,11 +72,9 @@ fn none_dissolve(minimum: u64, counts: &[u64]) -> bool
     ensures { result ≡ every (λ n. not (small minimum n)) counts.now }
 {
     let mut none = true;
-    let mut i = 0usize;
-    while i < counts.len() {
+    for i in 0..counts.len() {
         let dissolves = is_small(counts, minimum, CentroidRank(i as u64));
         none = none & !dissolves;
-        i += 1;
     }
     none
 }

@@ -32,13 +32,11 @@ pub(crate) fn gather(
     ensures room { result ≤ length competing.old }
 {
     let mut n = 0usize;
-    let mut i = 0usize;
-    while i < centroids.len() {
-        let centroid = DocumentId(centroids[i]);
+    for id in centroids {
+        let centroid = DocumentId(*id);
         let r = rank(known, centroid);
         let dissolves = is_small(counts, minimum, r);
         n = push(dissolves, centroid, competing, n);
-        i += 1;
     }
     n
 }

@@ -78,8 +78,7 @@ pub fn first_pass(
 {
     clearing::clear_f32(sums);
     let n = shorter(ids.len(), taken.len());
-    let mut i = 0usize;
-    while i < n {
+    for i in 0..n {
         let r = near_rank(
             offsets,
             components,
@@ -96,7 +95,6 @@ pub fn first_pass(
             keys,
         );
         taken[i] = r.0;
-        i += 1;
     }
     clearing::clear_u64(keys);
 }
@@ -129,8 +127,7 @@ pub fn second_pass(
 {
     clearing::clear_f32(sums);
     let end = shorter(ids.len(), taken.len());
-    let mut i = 0usize;
-    while i < end {
+    for i in 0..end {
         let own = CentroidRank(taken[i]);
         if is_small(counts, minimum, own) {
             let r = near_rank(
@@ -150,7 +147,6 @@ pub fn second_pass(
             );
             taken[i] = r.0;
         }
-        i += 1;
     }
     clearing::clear_u64(keys);
 }

@@ -54,13 +54,12 @@ pub(crate) fn first_pass(
         weights.now) (length sums.old)
         (documents offsets.now components.now values.now) i)) ids.now taken.old }
 {
-    let mut i = 0usize;
-    while i < ids.len() {
+    for (i, id) in ids.iter().enumerate() {
         let r = first_rank(
             offsets,
             components,
             values,
-            DocumentId(ids[i]),
+            DocumentId(*id),
             centroids,
             known,
             starts,
@@ -69,7 +68,6 @@ pub(crate) fn first_pass(
             sums,
         );
         taken[i] = r.0;
-        i += 1;
     }
 }
 
@@ -124,14 +122,13 @@ pub(crate) fn second_pass(
         weights.now) (length sums.old)
         (documents offsets.now components.now values.now)) ids.now taken.old }
 {
-    let mut i = 0usize;
-    while i < ids.len() {
+    for (i, id) in ids.iter().enumerate() {
         let own = CentroidRank(taken[i]);
         let r = second_rank(
             offsets,
             components,
             values,
-            DocumentId(ids[i]),
+            DocumentId(*id),
             own,
             minimum,
             centroids,
@@ -143,6 +140,5 @@ pub(crate) fn second_pass(
             sums,
         );
         taken[i] = r.0;
-        i += 1;
     }
 }

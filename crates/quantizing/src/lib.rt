@@ -28,12 +28,10 @@ pub fn extent_of(values: &[f32]) -> Extent
 {
     let mut low = 0xffff_ffffu32;
     let mut high = 0u32;
-    let mut i = 0;
-    while i < values.len() {
-        let k = float32::key(values[i]);
+    for value in values {
+        let k = float32::key(*value);
         low = smaller_u32(low, k);
         high = greater_u32(high, k);
-        i += 1;
     }
     Extent {
         least: float32::value_of_key(low),
@@ -74,10 +72,8 @@ fn encode(values: &[f32], least: f32, step: f32, codes: &mut [u8])
     requires { length values.now ≤ length codes.old }
     ensures { codes.new ≡ map (code_of least step) values.now ++ drop (length values.now) codes.old }
 {
-    let mut i = 0;
-    while i < values.len() {
-        codes[i] = code_of(least, step, values[i]);
-        i += 1;
+    for (i, value) in values.iter().enumerate() {
+        codes[i] = code_of(least, step, *value);
     }
 }
 

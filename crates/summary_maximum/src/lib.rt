@@ -25,11 +25,7 @@ fn raise(xs: &mut [f32], i: usize, x: f32)
 fn stands_at(keys: &[u64], count: usize, place: usize, component: u64) -> bool
     ensures { result ≡ (ltb place count && eqb (get_or keys.now place 0) component) }
 {
-    if place < count {
-        cells::at_u64(keys, place, 0) == component
-    } else {
-        false
-    }
+    place < count && cells::at_u64(keys, place, 0) == component
 }
 
 // Takes one term into the block's maximum, and answers how many components are met; a component from the limit on is passed over. A
@@ -79,10 +75,8 @@ fn meet(
         (paired components.now values.now) }
 {
     let mut met = count;
-    let mut i = 0usize;
-    while i < components.len() {
-        met = meet_term(limit, components[i], values[i], met, keys, places, maxima);
-        i += 1;
+    for (component, value) in components.iter().zip(values) {
+        met = meet_term(limit, *component, *value, met, keys, places, maxima);
     }
     met
 }
@@ -104,12 +98,10 @@ fn meet_document(
 {
     let n = documents::term_count(components, values);
     let range = documents::places(offsets, n, id);
-    let from = range.from;
-    let to = range.to;
     meet(
         limit,
-        &components[from..to],
-        &values[from..to],
+        &components[range.from..range.to],
+        &values[range.from..range.to],
         count,
         keys,
         places,
@@ -135,13 +127,11 @@ pub fn gather(
         (below limit (block_terms (documents offsets.now components.now values.now) block.now)) }
 {
     let mut count = 0usize;
-    let mut i = 0usize;
-    while i < block.len() {
-        let id = DocumentId(block[i]);
+    for document in block {
+        let id = DocumentId(*document);
         count = meet_document(
             limit, offsets, components, values, id, count, keys, places, maxima,
         );
-        i += 1;
     }
     count
 }
@@ -150,10 +140,8 @@ pub fn gather(
 pub fn forget(keys: &[u64], places: &mut [u64])
     ensures { places.new ≡ foldl (λ l k. set l (component_of k) 0) places.old keys.now }
 {
-    let mut i = 0usize;
-    while i < keys.len() {
-        let component = term_keys::component_of_term_key(keys[i]) as usize;
+    for key in keys {
+        let component = term_keys::component_of_term_key(*key) as usize;
         cells::put_u64(places, component, 0);
-        i += 1;
     }
 }

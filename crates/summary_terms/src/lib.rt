@@ -18,11 +18,9 @@ fn join_keys(keys: &mut [u64], maxima: &[f32])
     requires { length keys.old ≡ length maxima.now }
     ensures { keys.new ≡ zip_with key_of_pair keys.old maxima.now }
 {
-    let mut i = 0usize;
-    while i < keys.len() {
+    for (i, maximum) in maxima.iter().enumerate() {
         let component = term_keys::component_of_term_key(keys[i]);
-        keys[i] = term_keys::term_key(component, maxima[i]);
-        i += 1;
+        keys[i] = term_keys::term_key(component, *maximum);
     }
 }
 
@@ -30,13 +28,8 @@ fn join_keys(keys: &mut [u64], maxima: &[f32])
 fn total(keys: &[u64]) -> f32
     ensures { result ≡ sum (map value_of_term keys.now) }
 {
-    let mut sum = 0.0f32;
-    let mut i = 0usize;
-    while i < keys.len() {
-        sum = sum + term_keys::value_of_term_key(keys[i]);
-        i += 1;
-    }
-    sum
+    keys.iter()
+        .fold(0.0, |sum, key| sum + term_keys::value_of_term_key(*key))
 }
 
 // How many of the keys' values it takes for a running sum of at least a goal; all, where none is.
@@ -44,15 +37,13 @@ fn reached(keys: &[u64], goal: f32) -> usize
     ensures { result ≡ reached_by goal zero (map value_of_term keys.now) }
 {
     let mut sum = 0.0f32;
-    let mut i = 0usize;
-    while i < keys.len() {
-        sum = sum + term_keys::value_of_term_key(keys[i]);
-        i += 1;
+    for (i, key) in keys.iter().enumerate() {
+        sum += term_keys::value_of_term_key(*key);
         if sum >= goal {
-            return i;
+            return i + 1;
         }
     }
-    i
+    keys.len()
 }
 
 // How many of the keys, the greatest first, a summary keeps.

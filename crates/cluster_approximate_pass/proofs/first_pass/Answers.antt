@@ -6,84 +6,39 @@ use Rattle.cluster_passes.specs.Laws.Passes.{over-start}
 use Rattle.cluster_slots.specs.Met.{none}
 use Rattle.cluster_approximate_pass.specs.Taking.{nearly_choice}
 use Rattle.cluster_approximate_pass.proofs.Laws.{taken-first, over-cut}
-use mathlib.Core.Path.{refl, sym, ap, ◌∙◌}
+use mathlib.Core.Path.{sym, ap, ◌∙◌}
 use native.Mathlib.Omega.{arith}
-use lib.ListN.{length, replicate, length-set}
-use borrow.Author.Rules.{scaled_Fits}
+use lib.ListN.{length, replicate}
 use Rattle.cluster_approximate_pass.proofs.first_pass.Goals as goal
 
 pub loop-i-init : goal.loop-i-init
 loop-i-init c =
     let a = c.args in
     let z = c.clear_f32 in (
-      refl,
-      refl,
-      refl,
-      omega arith,
       over-start (λ i r. rank_in a.known.now
           (nearly_choice a.cut a.first.0 a.competing.now (documents a.starts.now a.slots.now a.weights.now) (length z.new.values) (length a.keys.now)
           (documents a.offsets.now a.components.now a.values.now) i)) a.ids.now a.taken.now,
       z.ensures ∙ ap (λ n. replicate n none) (sym z.auto.values),
     )
 
-pub offset_bounds-ids-i : goal.offset_bounds-ids-i
-offset_bounds-ids-i c =
-    scaled_Fits c.loop-i.i (length c.args.ids.now) 8 (omega (arith, c.loop-i-test.true, c.shorter-n.ensures)) c.well_formed.1.1.1.0.1
-
-pub bounds-ids-i : goal.bounds-ids-i
-bounds-ids-i c = omega (arith, c.loop-i-test.true, c.shorter-n.ensures)
-
-pub near_rank-r-requires : goal.near_rank-r-requires
-near_rank-r-requires c = let l = c.loop-i in l.invariant.5 ∙ ap (λ n. replicate n none) (sym l.invariant.0)
-
-pub offset_bounds-taken-i : goal.offset_bounds-taken-i
-offset_bounds-taken-i c =
-    scaled_Fits c.loop-i.i (length c.args.ids.now) 8 (omega (arith, c.loop-i-test.true, c.shorter-n.ensures)) c.well_formed.1.1.1.0.1
-
-pub bounds-taken-i : goal.bounds-taken-i
-bounds-taken-i c =
-    omega (arith, c.loop-i-test.true, c.shorter-n.ensures, c.loop-i.invariant.2)
-
-pub overflow_add-i : goal.overflow_add-i
-overflow_add-i c =
-    omega (arith, c.loop-i-test.true, c.shorter-n.ensures, c.well_formed.1.1.1.0.0)
-
-pub loop-i-smaller : goal.loop-i-smaller
-loop-i-smaller c =
-    omega (arith, c.loop-i-test.true)
-
 pub loop-i-preserved : goal.loop-i-preserved
 loop-i-preserved c =
     let l = c.loop-i in let a = c.args in let z = c.clear_f32 in let r = c.near_rank-r in (
-      r.auto.sums ∙ l.invariant.0,
-      r.auto.keys ∙ l.invariant.1,
-      length-set l.taken l.i r.result.0 ∙ l.invariant.2,
-      omega (arith, c.loop-i-test.true),
       taken-first a.known.now a.cut a.first.0 a.competing.now (documents a.starts.now a.slots.now a.weights.now) (length z.new.values)
           (length a.keys.now) (documents a.offsets.now a.components.now a.values.now) a.ids.now a.taken.now l.taken l.i
-          (length l.sums) (length l.keys) r.result.0 l.invariant.4 (omega (arith, c.loop-i-test.true, c.shorter-n.ensures))
-          (omega (arith, c.loop-i-test.true, c.shorter-n.ensures)) l.invariant.0 l.invariant.1 r.ensures.answer,
-      r.ensures.sums ∙ ap (λ n. replicate n none) l.invariant.0,
+          (length l.sums) (length l.keys) r.result.0 l.invariant.0 (omega (arith, c.loop-i-test.true, c.shorter-n.ensures))
+          (omega (arith, c.loop-i-test.true, c.shorter-n.ensures)) l.auto.sums l.auto.keys r.ensures.answer,
+      r.ensures.sums ∙ ap (λ n. replicate n none) l.auto.sums,
     )
-
-pub shape_of-sums : goal.shape_of-sums
-shape_of-sums c =
-    c.loop-i.invariant.0 ∙ c.clear_f32.auto.values
-
-pub shape_of-keys : goal.shape_of-keys
-shape_of-keys c = c.clear_u64.auto.numbers ∙ c.loop-i.invariant.1
-
-pub shape_of-taken : goal.shape_of-taken
-shape_of-taken c = c.loop-i.invariant.2
 
 pub returns : goal.returns
 returns c =
     let l = c.loop-i in let a = c.args in let z = c.clear_f32 in record {
       taken = over-cut (λ i r. rank_in a.known.now (nearly_choice a.cut a.first.0 a.competing.now (documents a.starts.now a.slots.now a.weights.now)
           (length z.new.values) (length a.keys.now) (documents a.offsets.now a.components.now a.values.now) i)) a.ids.now a.taken.now l.taken l.i
-          c.shorter-n.result l.invariant.4 c.shorter-n.ensures (omega (arith, l.invariant.3, c.loop-i-test.false))
+          c.shorter-n.result l.invariant.0 c.shorter-n.ensures (omega (arith, l.auto.i-end, c.loop-i-test.false))
           ∙ ap (λ n. over (λ i r. rank_in a.known.now (nearly_choice a.cut a.first.0 a.competing.now (documents a.starts.now a.slots.now a.weights.now) (n)
           (length a.keys.now) (documents a.offsets.now a.components.now a.values.now) i)) a.ids.now a.taken.now) z.auto.values;
-      sums = l.invariant.5 ∙ ap (λ n. replicate n none) z.auto.values;
-      keys = c.clear_u64.ensures ∙ ap (λ n. replicate n 0) l.invariant.1;
+      sums = l.invariant.1 ∙ ap (λ n. replicate n none) z.auto.values;
+      keys = c.clear_u64.ensures ∙ ap (λ n. replicate n 0) l.auto.keys;
     }

@@ -5,15 +5,11 @@ use Rattle.cluster_passes.specs.Laws.Passes.{Over}
 use Rattle.cluster_slots.specs.Met.{none}
 use Rattle.cluster_approximate_pass.specs.Taking.{nearly_choice}
 use mathlib.Core.Path.{◌≡◌}
-use Prim.Native.Nat.{◌-◌, ◌≤◌}
 use lib.ListN.{length, replicate}
 use Rattle.cluster_approximate_pass.proofs.first_pass.Given as goal
 
 abbrev pub invariant-loop-i : goal.invariant-loop-i
 invariant-loop-i l =
-    (length l.sums ≡ length l.initial.sums) × (length l.keys ≡ length l.initial.keys) × (length l.taken ≡ length l.initial.taken) × (l.i ≤ l.n) × Over
+    Over
     (λ i r. rank_in l.known (nearly_choice l.cut l.first.0 l.competing (documents l.starts l.slots l.weights) (length l.initial.sums) (length l.initial.keys) (documents l.offsets l.components l.values) i)) l.ids
     l.initial.taken l.i l.taken × (l.sums ≡ replicate (length l.initial.sums) none)
-
-abbrev pub decreases-loop-i : goal.decreases-loop-i
-decreases-loop-i l = l.n - l.i

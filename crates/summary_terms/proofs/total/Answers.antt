@@ -1,16 +1,15 @@
--- The loop's invariant: the values left, added to the sum so far, give the sum of all.
-use mathlib.Core.Path.{refl, ap}
-use native.Mathlib.Omega.{arith}
-use lib.Ieee.{binary32, add, of_bits}
-use Rattle.summary_terms.proofs.Loops.{total-step, total-end}
+-- The fold of the first values is their sum, whatever comes after them.
+use Rattle.std.proofs.Common.{◌≡◌, refl, subst, rules}
+use Rattle.std.proofs.lemmas.Fn.{fold_over, slice_gives, fronts}
+use mathlib.Core.List.{map}
+use lib.Ieee.{of_bits}
+use Rattle.documents.specs.Documents.{sum}
+use Rattle.documents.specs.TermKeys.{value_of_term}
+use Rattle.summary_terms.proofs.Loops.{one_more}
 use Rattle.summary_terms.proofs.total.Goals as goal
 
-pub loop-i-init : goal.loop-i-init
-unfolding of_bits
-loop-i-init c = (omega arith, refl)
-
-pub loop-i-preserved : goal.loop-i-preserved
-loop-i-preserved c = let l = c.loop-i in let a = c.args in (omega arith, total-step l.sum _ _ a.keys.now l.i (omega arith) l.invariant.1 (ap (add binary32 l.sum) c.value_of_term_key-sum.ensures))
-
 pub returns : goal.returns
-returns c = let l = c.loop-i in let a = c.args in total-end l.sum _ a.keys.now l.i (omega arith) l.invariant.1
+unfolding of_bits
+returns c = subst (λ ks. c.fold.result ≡ sum (map value_of_term ks)) c.iter.ensures.rest
+    (fold_over fronts (λ y. y.now) _ (λ ks s. s ≡ sum (map value_of_term ks)) _ (λ ks s k r f' j h. let more = one_more ks k.now in search rules)
+    _ _ _ _ (slice_gives c.iter.result) refl c.fold.ensures.ran)

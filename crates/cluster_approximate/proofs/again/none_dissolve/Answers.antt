@@ -1,6 +1,6 @@
 -- `cluster_approximate::again::none_dissolve` meets its contract: the fold of what is left is the fold of all.
 use Prim.Native.Nat.{◌+◌}
-use mathlib.Core.Path.{refl, sym, ap, ◌∙◌}
+use mathlib.Core.Path.{sym, ap, ◌∙◌}
 use mathlib.Core.Bool.{true, not, ◌&&◌}
 use mathlib.Core.List.{foldl}
 use lib.ListN.{drop}
@@ -8,9 +8,6 @@ use Rattle.counting_sort.specs.Laws.Loops.{fold_step, fold_end}
 use Rattle.cluster_nearest.specs.Laws.Passed.{every-fold}
 use Rattle.cluster_meaning.specs.Clusters.{small}
 use Rattle.cluster_approximate.proofs.again.none_dissolve.Goals as goal
-
-pub loop-i-init : goal.loop-i-init
-loop-i-init c = refl
 
 pub loop-i-preserved : goal.loop-i-preserved
 loop-i-preserved c =

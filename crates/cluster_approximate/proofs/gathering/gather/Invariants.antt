@@ -4,12 +4,9 @@ use Rattle.sequences.specs.Lists.{those}
 use Rattle.cluster_passes.specs.Ranked.{rank_in, is_small}
 use mathlib.Core.Path.{◌≡◌}
 use mathlib.Core.List.{◌++◌}
-use Prim.Native.Nat.{◌-◌, ◌≤◌}
-use lib.ListN.{length, take, drop}
+use Prim.Native.Nat.{◌≤◌}
+use lib.ListN.{take, drop}
 use Rattle.cluster_approximate.proofs.gathering.gather.Given as goal
 
-abbrev pub invariant-loop-i : goal.invariant-loop-i
-invariant-loop-i l = (length l.competing ≡ length l.initial.competing) × (l.n ≤ l.i) × (l.i ≤ length l.centroids) × (take l.n l.competing ++ those (λ c. not (is_small l.counts l.minimum (rank_in l.known c))) (drop l.i l.centroids) ≡ those (λ c. not (is_small l.counts l.minimum (rank_in l.known c))) l.centroids)
-
-abbrev pub decreases-loop-i : goal.decreases-loop-i
-decreases-loop-i l = length l.centroids - l.i
+abbrev pub invariant-loop-id : goal.invariant-loop-id
+invariant-loop-id l = (l.n ≤ l.id-index) × (take l.n l.competing ++ those (λ c. not (is_small l.counts l.minimum (rank_in l.known c))) (drop l.id-index l.centroids) ≡ those (λ c. not (is_small l.counts l.minimum (rank_in l.known c))) l.centroids)

@@ -3,43 +3,34 @@ use Rattle.cluster_passes.specs.Ranked.{rank_in}
 use Rattle.documents.specs.Documents.{documents}
 use Rattle.cluster_passes.specs.Laws.Passes.{over-start, over-step, over-end}
 use Rattle.cluster_exact.specs.Exact.{first_choice}
-use mathlib.Core.Path.{refl, ap, ◌∙◌}
+use mathlib.Core.Path.{ap, ◌∙◌}
 use Prim.Native.Nat.{ℕ}
 use native.Mathlib.Omega.{arith}
 use lib.ListN.{length, get_or, set}
-use borrow.Author.Rules.{rules}
 use Rattle.cluster_exact.proofs.taking.first_pass.Goals as goal
 
 pub loop-i-init : goal.loop-i-init
 loop-i-init c =
-    let a = c.args in (
-      refl,
-      refl,
-      search rules,
-      over-start (λ (j r : ℕ). rank_in a.known.now
-          (first_choice a.known.now a.centroids.now (documents a.starts.now a.slots.now a.weights.now) (length a.sums.now)
-          (documents a.offsets.now a.components.now a.values.now) j)) a.ids.now a.taken.now,
-    )
+    let a = c.args in
+    over-start (λ (j r : ℕ). rank_in a.known.now
+    (first_choice a.known.now a.centroids.now (documents a.starts.now a.slots.now a.weights.now) (length a.sums.now)
+    (documents a.offsets.now a.components.now a.values.now) j)) a.ids.now a.taken.now
 
 pub loop-i-preserved : goal.loop-i-preserved
 loop-i-preserved c =
     let l = c.loop-i in
     let a = c.args in
     let f : ℕ → ℕ → ℕ = (λ (j r : ℕ). rank_in a.known.now (first_choice a.known.now a.centroids.now (documents a.starts.now a.slots.now a.weights.now)
-    (length a.sums.now) (documents a.offsets.now a.components.now a.values.now) j)) in (
-      search rules,
-      search rules,
-      search rules,
-      ap (set l.taken l.i) (c.first_rank-r.ensures ∙ ap
-          (λ n. rank_in a.known.now (first_choice a.known.now a.centroids.now (documents a.starts.now a.slots.now a.weights.now) n
-          (documents a.offsets.now a.components.now a.values.now) (get_or a.ids.now l.i 0))) l.invariant.0)
-          ∙ over-step f a.ids.now a.taken.now l.taken l.i l.invariant.3 c.loop-i-test.true (omega (arith, c.requires, c.loop-i-test.true)),
-    )
+    (length a.sums.now) (documents a.offsets.now a.components.now a.values.now) j)) in
+    ap (set l.taken l.i) (c.first_rank-r.ensures ∙ ap
+    (λ n. rank_in a.known.now (first_choice a.known.now a.centroids.now (documents a.starts.now a.slots.now a.weights.now) n
+    (documents a.offsets.now a.components.now a.values.now) (get_or a.ids.now l.i 0))) l.auto.sums)
+    ∙ over-step f a.ids.now a.taken.now l.taken l.i l.invariant c.loop-i-test.true (omega (arith, c.requires, c.loop-i-test.true))
 
 pub returns : goal.returns
 returns c =
     let l = c.loop-i in
     let a = c.args in
     over-end (λ (j r : ℕ). rank_in a.known.now (first_choice a.known.now a.centroids.now (documents a.starts.now a.slots.now a.weights.now)
-    (length a.sums.now) (documents a.offsets.now a.components.now a.values.now) j)) a.ids.now a.taken.now l.taken l.i l.invariant.3
-    (omega (arith, l.invariant.2, c.loop-i-test.false))
+    (length a.sums.now) (documents a.offsets.now a.components.now a.values.now) j)) a.ids.now a.taken.now l.taken l.i l.invariant
+    (omega (arith, l.auto.i-end, c.loop-i-test.false))

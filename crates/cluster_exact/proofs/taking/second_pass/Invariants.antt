@@ -2,13 +2,8 @@
 use Rattle.documents.specs.Documents.{documents}
 use Rattle.cluster_passes.specs.Laws.Passes.{Over}
 use Rattle.cluster_exact.specs.Exact.{second_rank}
-use mathlib.Core.Path.{◌≡◌}
-use Prim.Native.Nat.{◌-◌, ◌≤◌}
 use lib.ListN.{length}
 use Rattle.cluster_exact.proofs.taking.second_pass.Given as goal
 
 abbrev pub invariant-loop-i : goal.invariant-loop-i
-invariant-loop-i l = (length l.sums ≡ length l.initial.sums) × (length l.taken ≡ length l.initial.taken) × (l.i ≤ length l.ids) × Over (second_rank l.known l.counts l.minimum l.centroids (documents l.starts l.slots l.weights) (length l.initial.sums) (documents l.offsets l.components l.values)) l.ids l.initial.taken l.i l.taken
-
-abbrev pub decreases-loop-i : goal.decreases-loop-i
-decreases-loop-i l = length l.ids - l.i
+invariant-loop-i l = Over (second_rank l.known l.counts l.minimum l.centroids (documents l.starts l.slots l.weights) (length l.initial.sums) (documents l.offsets l.components l.values)) l.ids l.initial.taken l.i l.taken
