@@ -3,8 +3,6 @@ use Rattle.std.specs.Prelude.{ℕ, ◌+◌, ◌*◌, ◌/◌, max, List, [], ◌
 use Rattle.std.proofs.Common.{inl, inr}
 use Rattle.refusal.specs.declared.Refusal.{Refusal}
 use Rattle.refusal.specs.declared.Refusal.TheVariants.{NoBlockSize, BufferTooShort, OutsideLimits}
-use Rattle.refusal.specs.declared.Verdict.{Verdict}
-use Rattle.refusal.specs.declared.Verdict.TheVariants as verdict
 use Rattle.refusal.specs.Refusals.{number_of}
 use Rattle.refusal.specs.First.{Test, ◌gives◌, first_of}
 use Rattle.sequences.specs.Lists.{from}
@@ -28,9 +26,9 @@ blocking_tests n b room =
     ∷ (leb room (n / b) gives BufferTooShort)
     ∷ []
 
-abbrev pub answered : Verdict → ℕ → Result ℕ Refusal
-answered verdict.Accepted number = Ok number
-answered (verdict.Refused r) number = Err r
+abbrev pub answered : Result (Unit {0}) Refusal → ℕ → Result ℕ Refusal
+answered (Ok _) number = Ok number
+answered (Err r) number = Err r
 
 -- what blocking a list of n ids by b comes to
 unfoldable pub blocked : ℕ → ℕ → List ℕ → Result ℕ Refusal
@@ -40,9 +38,9 @@ blocked n b buffer = answered (first_of (blocking_tests n b (length buffer))) (n
 abbrev pub in_front : List ℕ → List ℕ → List ℕ
 in_front result buffer = result ++ drop (length result) buffer
 
-abbrev pub left : Verdict → List ℕ → List ℕ → List ℕ
-left verdict.Accepted result buffer = in_front result buffer
-left (verdict.Refused r) result buffer = buffer
+abbrev pub left : Result (Unit {0}) Refusal → List ℕ → List ℕ → List ℕ
+left (Ok _) result buffer = in_front result buffer
+left (Err r) result buffer = buffer
 
 -- the lent buffer afterwards
 unfoldable pub offsets_left : ℕ → ℕ → List ℕ → List ℕ

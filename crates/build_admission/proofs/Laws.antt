@@ -1,4 +1,6 @@
 -- The tests of an input one after another, and the pass over the listed ranges.
+use Rattle.std.specs.Prelude.{Result, Ok, Err}
+use Rattle.refusal.specs.declared.Refusal.{Refusal}
 use Prim.Native.Nat.{ℕ, suc, ◌+◌, ◌-◌, ◌≤◌, ◌<◌, ◌/◌, min}
 use native.Mathlib.Omega.{arith}
 use native.Mathlib.Numerals.{add-one}
@@ -11,8 +13,6 @@ use lib.Dec.{leb, ltb, eqb}
 use lib.Ieee.{Float}
 use borrow.Author.Tests.{eq-eqb, ne_eqb}
 use Rattle.refusal.specs.declared.Refusal.TheVariants.{StartTooLarge, RangeTooLong, NoBlockSize, WrongCentroids, WrongDocuments, OutsideLimits, WrongTerms}
-use Rattle.refusal.specs.declared.Verdict.{Verdict}
-use Rattle.refusal.specs.declared.Verdict.TheVariants.{Accepted, Refused}
 use Rattle.refusal.specs.First.{first_of}
 use Rattle.configuration.specs.declared.BlockingStrategy.{BlockingStrategy}
 use Rattle.configuration.specs.declared.BlockingStrategy.TheVariants.{FixedSize, RandomKmeans}
@@ -79,21 +79,21 @@ module _ (f : Float) (n l k : ℕ) (some : n ≡ 0 → ⊥) (e : k ≡ centroid_
 
 -- ---- the way of blocking
 module _ (k : BlockingStrategy) (n l size : ℕ) (e : k ≡ FixedSize size) where
-  pub no_size : size ≡ 0 → Refused NoBlockSize ≡ first_of (blocking_faults k n l)
+  pub no_size : size ≡ 0 → Err NoBlockSize ≡ first_of (blocking_faults k n l)
   no_size z = rw (e, eq-eqb size 0 z)
 
   module _ (some : size ≡ 0 → ⊥) (r : Bool) (f : r ≡ ltb block_limit (n / size)) where
-    pub many-blocks : r ≡ true → Refused OutsideLimits ≡ first_of (blocking_faults k n l)
+    pub many-blocks : r ≡ true → Err OutsideLimits ≡ first_of (blocking_faults k n l)
     many-blocks h = rw (e, ne_eqb size 0 some, ← f, h)
 
-    pub few-blocks : r ≡ false → Accepted ≡ first_of (blocking_faults k n l)
+    pub few-blocks : r ≡ false → Ok tt ≡ first_of (blocking_faults k n l)
     few-blocks h = rw (e, ne_eqb size 0 some, ← f, h)
 
 module _ (k : BlockingStrategy) (n l : ℕ) (f : Float) (m : ℕ) (a : ClusteringAlgorithm) (e : k ≡ RandomKmeans f m a) (r : Bool) (w : r ≡ wrong_centroids f n l) where
-  pub centroids-wrong : r ≡ true → Refused WrongCentroids ≡ first_of (blocking_faults k n l)
+  pub centroids-wrong : r ≡ true → Err WrongCentroids ≡ first_of (blocking_faults k n l)
   centroids-wrong h = rw e (rw (sym w ∙ h))
 
-  pub centroids-right : r ≡ false → Accepted ≡ first_of (blocking_faults k n l)
+  pub centroids-right : r ≡ false → Ok tt ≡ first_of (blocking_faults k n l)
   centroids-right h = rw e (rw (sym w ∙ h))
 
 -- ---- ranges
@@ -124,29 +124,29 @@ both-fit os ids s l e f = ap (λ z. record { starts = z; lengths = l }) e ∙ ap
 
 -- ---- the first fault of an input, where each check answers by its own word and u are the centroids used
 module _ (n : ℕ) (k : BlockingStrategy) (d : Documents) (ids cs : List ℕ) (out : Bool) (is-out : out ≡ (ltb list_limit (length ids) || (eqb n 0 || ltb dimension_limit n))) where
-  pub refuses-limits : out ≡ true → Refused OutsideLimits ≡ first_of (input_tests n k d ids cs)
+  pub refuses-limits : out ≡ true → Err OutsideLimits ≡ first_of (input_tests n k d ids cs)
   unfolding input_tests
   refuses-limits o = rw (← is-out, o)
 
   module _ (o : out ≡ false) (us : List ℕ) (u : us ≡ centroids_used k cs) (known : Bool) (is_Known : known ≡ (offsets_hold d && ids_hold (count d.offsets) (ids ++ us))) where
-    pub refuses-documents : not known ≡ true → Refused WrongDocuments ≡ first_of (input_tests n k d ids cs)
+    pub refuses-documents : not known ≡ true → Err WrongDocuments ≡ first_of (input_tests n k d ids cs)
     unfolding input_tests
     refuses-documents w = rw (← is-out, o, ← u, ← is_Known, w)
 
     module _ (w : not known ≡ false) (hold : Bool) (is-hold : hold ≡ documents_hold n d (ids ++ us)) where
-      pub refuses-terms : not hold ≡ true → Refused WrongTerms ≡ first_of (input_tests n k d ids cs)
+      pub refuses-terms : not hold ≡ true → Err WrongTerms ≡ first_of (input_tests n k d ids cs)
       unfolding input_tests
       refuses-terms t = rw (← is-out, o, ← u, ← is_Known, w, ← is-hold, t)
 
       module _ (t : not hold ≡ false) (fit : RangesFit) (is-fit : fit ≡ ranges_fit d.offsets ids) where
-        pub refuses-starts : not fit.starts ≡ true → Refused StartTooLarge ≡ first_of (input_tests n k d ids cs)
+        pub refuses-starts : not fit.starts ≡ true → Err StartTooLarge ≡ first_of (input_tests n k d ids cs)
         unfolding input_tests
         refuses-starts s = rw (← is-out, o, ← u, ← is_Known, w, ← is-hold, t, ← ap (λ r. r.starts) is-fit, s)
 
-        pub refuses-lengths : not fit.starts ≡ false → not fit.lengths ≡ true → Refused RangeTooLong ≡ first_of (input_tests n k d ids cs)
+        pub refuses-lengths : not fit.starts ≡ false → not fit.lengths ≡ true → Err RangeTooLong ≡ first_of (input_tests n k d ids cs)
         unfolding input_tests
         refuses-lengths s l = rw (← is-out, o, ← u, ← is_Known, w, ← is-hold, t, ← ap (λ r. r.starts) is-fit, s, ← ap (λ r. r.lengths) is-fit, l)
 
-        pub leaves-blocking : (r : Verdict) → not fit.starts ≡ false → not fit.lengths ≡ false → r ≡ first_of (blocking_faults k (length ids) (length cs)) → r ≡ first_of (input_tests n k d ids cs)
+        pub leaves-blocking : (r : Result (Unit {0}) Refusal) → not fit.starts ≡ false → not fit.lengths ≡ false → r ≡ first_of (blocking_faults k (length ids) (length cs)) → r ≡ first_of (input_tests n k d ids cs)
         unfolding input_tests
         leaves-blocking r s l e = rw (← is-out, o, ← u, ← is_Known, w, ← is-hold, t, ← ap (λ r. r.starts) is-fit, s, ← ap (λ r. r.lengths) is-fit, l) e

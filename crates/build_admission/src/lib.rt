@@ -13,7 +13,7 @@ ghost use Rattle.build_admission.specs.Answers.{ranges_fit, taken_of};
 use configuration::BlockingStrategy;
 use number_types::DocumentId;
 use packing::PackedPosting;
-use refusal::{Refusal, Verdict};
+use refusal::Refusal;
 
 // Whether the start of each listed range is below its limit, and whether no length is above its own.
 #[derive(Drop)]
@@ -121,18 +121,18 @@ fn wrong_centroids(fraction: f32, ids: u64, listed: u64) -> bool
 }
 
 // Refusals 3 and 8, or 5: how the list is to be blocked.
-fn blocking_verdict(blocking: BlockingStrategy, ids: u64, listed: u64) -> Verdict
+fn blocking_verdict(blocking: BlockingStrategy, ids: u64, listed: u64) -> Result<(), Refusal>
     ensures { result ≡ first_of (blocking_faults blocking ids listed) }
 {
     match blocking {
         BlockingStrategy::FixedSize { block_size } => {
             if block_size == 0 {
-                return Verdict::Refused(Refusal::NoBlockSize);
+                return Err(Refusal::NoBlockSize);
             }
             if blocking::limits::too_many_blocks(ids / block_size) {
-                return Verdict::Refused(Refusal::OutsideLimits);
+                return Err(Refusal::OutsideLimits);
             }
-            Verdict::Accepted
+            Ok(())
         }
         BlockingStrategy::RandomKmeans {
             centroid_fraction,
@@ -140,9 +140,9 @@ fn blocking_verdict(blocking: BlockingStrategy, ids: u64, listed: u64) -> Verdic
             clustering_algorithm: _,
         } => {
             if wrong_centroids(centroid_fraction, ids, listed) {
-                return Verdict::Refused(Refusal::WrongCentroids);
+                return Err(Refusal::WrongCentroids);
             }
-            Verdict::Accepted
+            Ok(())
         }
     }
 }
@@ -158,26 +158,26 @@ pub fn admitted(
     values: &[f32],
     ids: &[u64],
     centroids: &[u64],
-) -> Verdict
+) -> Result<(), Refusal>
     ensures { result ≡ first_of (input_tests dimension blocking (documents offsets.now components.now values.now) ids.now centroids.now) }
 {
     if outside_limits(dimension, ids.len() as u64) {
-        return Verdict::Refused(Refusal::OutsideLimits);
+        return Err(Refusal::OutsideLimits);
     }
     let taken = centroids_taken(blocking, centroids.len());
     let used = &centroids[..taken];
     if !documents_known(offsets, components, values, ids, used) {
-        return Verdict::Refused(Refusal::WrongDocuments);
+        return Err(Refusal::WrongDocuments);
     }
     if !terms_hold(dimension, offsets, components, values, ids, used) {
-        return Verdict::Refused(Refusal::WrongTerms);
+        return Err(Refusal::WrongTerms);
     }
     let fit = ranges_fit(offsets, ids);
     if !fit.starts {
-        return Verdict::Refused(Refusal::StartTooLarge);
+        return Err(Refusal::StartTooLarge);
     }
     if !fit.lengths {
-        return Verdict::Refused(Refusal::RangeTooLong);
+        return Err(Refusal::RangeTooLong);
     }
     blocking_verdict(blocking, ids.len() as u64, centroids.len() as u64)
 }

@@ -53,7 +53,7 @@ pub fn clear_work(keys: &mut [u64], places: &mut [u64], maxima: &mut [f32])
     ensures places { places.new ≡ zeros places.old }
     ensures maxima { maxima.new ≡ float_zeros maxima.old }
 {
-    clearing::clear_u64(keys);
-    clearing::clear_u64(places);
-    clearing::clear_f32(maxima);
+    clearing::clear(keys);
+    clearing::clear(places);
+    clearing::clear(maxima);
 }

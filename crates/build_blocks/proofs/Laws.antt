@@ -7,7 +7,6 @@ use mathlib.Core.Bool.{Bool, true, false, true≢false}
 use mathlib.Core.List.{List}
 use lib.ListN.{length}
 use Rattle.refusal.specs.declared.Refusal.{Refusal}
-use Rattle.refusal.specs.declared.Verdict.TheVariants as verdict
 use Rattle.refusal.specs.First.{first_of}
 use Rattle.blocking.specs.Blocking.{blocking_tests, answered, blocked, left as left_in, offsets_left, fixed_offsets}
 use Rattle.blocking.specs.Laws.Blocking.{offsets-number}
@@ -18,7 +17,7 @@ abbrev number_in : Result ℕ Refusal → ℕ
 number_in (Ok n) = n
 number_in (Err r) = 0
 
-module _ (n b : ℕ) (buffer : List ℕ) (h : first_of (blocking_tests n b (length buffer)) ≡ verdict.Accepted) where
+module _ (n b : ℕ) (buffer : List ℕ) (h : first_of (blocking_tests n b (length buffer)) ≡ Ok tt) where
   answer-is : (a : Result ℕ Refusal) → a ≡ blocked n b buffer → a ≡ Ok (n / b + 1)
   unfolding blocked
   answer-is a e = e ∙ ap (λ v. answered v (n / b + 1)) h

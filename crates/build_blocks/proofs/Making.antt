@@ -1,4 +1,5 @@
 -- The whole of making: what the verdict says of the parts, and what they leave together.
+use Rattle.std.specs.Prelude.{Result, Ok, Err}
 use Prim.Native.Nat.{ℕ, suc, ◌/◌, ◌≤◌, ◌<◌, ◌^◌}
 use native.Mathlib.Omega.{arith}
 use native.Mathlib.Nat.{div-le_self}
@@ -12,8 +13,6 @@ use lib.Ieee.{Float, fin}
 use borrow.Author.Tests.{leb-true, lt-leb, not-false}
 use Rattle.refusal.specs.declared.Refusal.{Refusal}
 use Rattle.refusal.specs.declared.Refusal.TheVariants.{BufferTooShort}
-use Rattle.refusal.specs.declared.Verdict.{Verdict}
-use Rattle.refusal.specs.declared.Verdict.TheVariants as verdict
 use Rattle.refusal.specs.First.{◌gives◌, first_of, Faultless}
 use Rattle.refusal.specs.Laws.First.{faultless, faultless-both, accepted-by}
 use Rattle.configuration.specs.declared.BlockingStrategy.{BlockingStrategy}
@@ -37,8 +36,6 @@ use Rattle.build_meaning.specs.Built.{Blocked, input, in_clusters, blocked_by}
 use Rattle.build_meaning.specs.Needs.{sizes, sizes_for, scratch_needs, scratch_suffices}
 use Rattle.build_meaning.specs.Building.{laid}
 use Rattle.build_meaning.specs.Laws.Offsets.{right-count}
-use Rattle.build_ready.specs.declared.ListBlocks.{ListBlocks}
-use Rattle.build_ready.specs.declared.ListBlocks.TheVariants.{Offsets, Refused}
 use Rattle.build_ready.specs.Made.{make_tests, left, holding, left_by}
 use Rattle.build_blocks.specs.Fits.{CutFits, GroupFits}
 
@@ -110,11 +107,11 @@ entry-count d i (c ∷ cs) =
     length-append (map (entry i) (terms d c)) (entries_from d (suc i) cs) ∙ (let a = length-map (terms d c) (entry i) in let b = entry-count d (suc i) cs in let e = length-append (terms d c) (joined (map (terms d) cs)) in omega arith)
 
 -- ---- the verdict over the lent buffers
-module _ (dimension : ℕ) (k : BlockingStrategy) (d : Documents) (ids centroids : List ℕ) (s : Scratches) (v : Verdict) (judged : v ≡ first_of (make_tests dimension k d ids centroids s)) where
-  pub refused-made : (z : Scratches) (r : Refusal) → v ≡ verdict.Refused r → z ≡ cleared_scratch s → left (Refused r) z ≡ left_by (first_of (make_tests dimension k d ids centroids s)) (blocked_by k d centroids ids) s
-  refused-made z r h c = ap (left (Refused r)) c ∙ ap (λ w. left_by w (blocked_by k d centroids ids) s) (sym h ∙ judged)
+module _ (dimension : ℕ) (k : BlockingStrategy) (d : Documents) (ids centroids : List ℕ) (s : Scratches) (v : Result (Unit {0}) Refusal) (judged : v ≡ first_of (make_tests dimension k d ids centroids s)) where
+  pub refused-made : (z : Scratches) (r : Refusal) → v ≡ Err r → z ≡ cleared_scratch s → left (Err r) z ≡ left_by (first_of (make_tests dimension k d ids centroids s)) (blocked_by k d centroids ids) s
+  refused-made z r h c = ap (left (Err r)) c ∙ ap (λ w. left_by w (blocked_by k d centroids ids) s) (sym h ∙ judged)
 
-  module _ (h : v ≡ verdict.Accepted) where
+  module _ (h : v ≡ Ok tt) where
     faults : Faultless (input_tests dimension k d ids centroids) × Faultless ((not (scratch_suffices (scratch_needs (sizes_for dimension k d ids centroids)) (scratch_lengths s)) gives BufferTooShort) ∷ [])
     faults = faultless-both (input_tests dimension k d ids centroids) _ (faultless (make_tests dimension k d ids centroids s) (sym judged ∙ h))
 
@@ -124,7 +121,7 @@ module _ (dimension : ℕ) (k : BlockingStrategy) (d : Documents) (ids centroids
     room_for : Fits (scratch_needs (sizes_for dimension k d ids centroids)) (scratch_lengths s)
     room_for = fits-of (scratch_needs (sizes_for dimension k d ids centroids)) (scratch_lengths s) room
 
-    accepted-as : (r : ListBlocks) (z : Scratches) → left r z ≡ left_by verdict.Accepted (blocked_by k d centroids ids) s → left r z ≡ left_by (first_of (make_tests dimension k d ids centroids s)) (blocked_by k d centroids ids) s
+    accepted-as : (r : Result ℕ Refusal) (z : Scratches) → left r z ≡ left_by (Ok tt) (blocked_by k d centroids ids) s → left r z ≡ left_by (first_of (make_tests dimension k d ids centroids s)) (blocked_by k d centroids ids) s
     accepted-as r z w = w ∙ ap (λ w. left_by w (blocked_by k d centroids ids) s) (sym h ∙ judged)
 
     module _ (z : Scratches) (c : z ≡ cleared_scratch s) where
@@ -146,11 +143,11 @@ module _ (dimension : ℕ) (k : BlockingStrategy) (d : Documents) (ids centroids
             }
 
         pub cut-made : (count : ℕ) (order blocks : List ℕ) → count ≡ length (fixed_offsets (length ids) size) → order ≡ laid ids z.order → blocks ≡ laid (fixed_offsets (length ids) size) z.blocks
-            → left (Offsets count) (scratches order blocks z.sorted z.known z.taken z.counts z.starts z.slots z.weights z.sums z.keys) ≡ left_by (first_of (make_tests dimension k d ids centroids s)) (blocked_by k d centroids ids) s
+            → left (Ok count) (scratches order blocks z.sorted z.known z.taken z.counts z.starts z.slots z.weights z.sums z.keys) ≡ left_by (first_of (make_tests dimension k d ids centroids s)) (blocked_by k d centroids ids) s
         cut-made count order blocks e o b =
-            accepted-as (Offsets count) (scratches order blocks z.sorted z.known z.taken z.counts z.starts z.slots z.weights z.sums z.keys)
-            ((λ j. left (Offsets (e j)) (scratches ((o ∙ ap (λ z. laid ids z.order) c) j) ((b ∙ ap (λ z. laid (fixed_offsets (length ids) size) z.blocks) c) j) (c j).sorted (c j).known (c j).taken (c j).counts (c j).starts (c j).slots (c j).weights (c j).sums (c j).keys))
-            ∙ ap (λ k. left_by verdict.Accepted (blocked_by k d centroids ids) s) (sym q))
+            accepted-as (Ok count) (scratches order blocks z.sorted z.known z.taken z.counts z.starts z.slots z.weights z.sums z.keys)
+            ((λ j. left (Ok (e j)) (scratches ((o ∙ ap (λ z. laid ids z.order) c) j) ((b ∙ ap (λ z. laid (fixed_offsets (length ids) size) z.blocks) c) j) (c j).sorted (c j).known (c j).taken (c j).counts (c j).starts (c j).slots (c j).weights (c j).sums (c j).keys))
+            ∙ ap (λ k. left_by (Ok tt) (blocked_by k d centroids ids) s) (sym q))
 
       -- clusters
       module _ (fraction : Float) (minimum : ℕ) (algorithm : ClusteringAlgorithm) (q : k ≡ RandomKmeans fraction minimum algorithm) where
@@ -189,11 +186,11 @@ module _ (dimension : ℕ) (k : BlockingStrategy) (d : Documents) (ids centroids
 
         pub group-made : (count : ℕ) (after : Scratches) → count ≡ length (in_clusters (clusters (assigned_by algorithm d minimum centroids ids))).block_offsets
             → after ≡ holding (in_clusters (clusters (assigned_by algorithm d minimum centroids ids))) z
-            → left (Offsets count) after ≡ left_by (first_of (make_tests dimension k d ids centroids s)) (blocked_by k d centroids ids) s
+            → left (Ok count) after ≡ left_by (first_of (make_tests dimension k d ids centroids s)) (blocked_by k d centroids ids) s
         group-made count after e w =
-            accepted-as (Offsets count) after
-            ((λ j. left (Offsets (e j)) (w j)) ∙ ap (λ z. left (Offsets (length made.block_offsets)) (in_front z)) (ap cleared_scratch c ∙ cleared-twice s)
-            ∙ ap (λ k. left_by verdict.Accepted (blocked_by k d centroids ids) s) (sym q))
+            accepted-as (Ok count) after
+            ((λ j. left (Ok (e j)) (w j)) ∙ ap (λ z. left (Ok (length made.block_offsets)) (in_front z)) (ap cleared_scratch c ∙ cleared-twice s)
+            ∙ ap (λ k. left_by (Ok tt) (blocked_by k d centroids ids) s) (sym q))
           where
             made : Blocked
             made = in_clusters (clusters (assigned_by algorithm d minimum centroids ids))

@@ -1,6 +1,5 @@
 -- What the parts of making ask of what they are lent.
-use Rattle.std.specs.Prelude.{ℕ, ◌≤◌, ◌<◌, ◌≡◌, List, length}
-use Rattle.refusal.specs.declared.Verdict.TheVariants as verdict
+use Rattle.std.specs.Prelude.{ℕ, ◌≤◌, ◌<◌, ◌≡◌, List, length, Ok}
 use Rattle.refusal.specs.First.{first_of}
 use Rattle.blocking.specs.Blocking.{blocking_tests}
 use Rattle.documents.specs.Documents.{Documents}
@@ -9,7 +8,7 @@ use Rattle.clustering.specs.Enough.{Enough}
 
 -- fixed blocking is accepted, and the order has a place for each id
 pub record CutFits (size n order blocks : ℕ) : Type 0 where
-  pub accepted : first_of (blocking_tests n size blocks) ≡ verdict.Accepted
+  pub accepted : first_of (blocking_tests n size blocks) ≡ Ok tt
   pub listed : n ≤ order
 
 -- the scratch is zero, and a list that is not empty finds place in it, with one offset more than centroids

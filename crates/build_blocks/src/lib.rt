@@ -12,11 +12,10 @@ ghost use Rattle.build_ready.specs.Made.{make_tests, left, holding, left_by};
 ghost use Rattle.build_blocks.specs.Fits.{CutFits, GroupFits};
 ghost use Rattle.build_blocks.specs.Longest.{longest_of};
 
-use build_ready::ListBlocks;
-use cells::shorter;
+use build_ready::Result<u64, Refusal>;
 use configuration::{BlockingStrategy, ClusteringAlgorithm};
 use number_types::DocumentId;
-use refusal::Verdict;
+use refusal::Result<(), Refusal>;
 
 // Copies the ids to the front of the order.
 fn copy(ids: &[u64], order: &mut [u64])
@@ -44,7 +43,7 @@ fn longest(offsets: &[u64], components: &[u32], values: &[f32], ids: &[u64]) -> 
     let mut most = 0u64;
     for id in ids {
         let p = cluster_index::places_of(offsets, components, values, DocumentId(*id));
-        most = cells::greater_u64(most, (p.to - p.from) as u64);
+        most = most.max((p.to - p.from) as u64);
     }
     most
 }
@@ -82,10 +81,10 @@ fn by_clusters(
         (scratches order.old blocks.old sorted.old known.old taken.old counts.old
         starts.old slots.old weights.old sums.old keys.old) }
 {
-    let counted = shorter(centroids.len(), counts.len());
-    let scored = shorter(centroids.len(), sums.len());
+    let counted = centroids.len().min(counts.len());
+    let scored = centroids.len().min(sums.len());
     let most = longest(offsets, components, values, ids);
-    let keyed = shorter(most as usize, keys.len());
+    let keyed = (most as usize).min(keys.len());
     clustering::cluster(
         algorithm,
         minimum,
@@ -130,7 +129,7 @@ pub fn make(
     weights: &mut [f32],
     sums: &mut [f32],
     keys: &mut [u64],
-) -> ListBlocks
+) -> Result<u64, Refusal>
     ensures { left result (scratches order.new blocks.new sorted.new known.new taken.new counts.new
         starts.new slots.new weights.new sums.new keys.new)
         ≡ left_by (first_of (make_tests dimension blocking (documents offsets.now components.now values.now) ids.now centroids.now
@@ -144,18 +143,18 @@ pub fn make(
         dimension, blocking, offsets, components, values, ids, centroids, order, blocks, sorted,
         known, taken, counts, starts, slots, weights, sums, keys,
     );
-    if let Verdict::Refused(reason) = verdict {
-        return ListBlocks::Refused(reason);
+    if let Err(reason) = verdict {
+        return Err(reason);
     }
     match blocking {
-        BlockingStrategy::FixedSize { block_size } => ListBlocks::Offsets(cut(
+        BlockingStrategy::FixedSize { block_size } => Ok(cut(
             block_size, ids, order, blocks,
         )),
         BlockingStrategy::RandomKmeans {
             centroid_fraction: _,
             min_cluster_size,
             clustering_algorithm,
-        } => ListBlocks::Offsets(by_clusters(
+        } => Ok(by_clusters(
             clustering_algorithm,
             min_cluster_size,
             offsets,

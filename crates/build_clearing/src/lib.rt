@@ -19,14 +19,14 @@ pub fn clear_output(
         minimums.new steps.new ≡ cleared_output (outputs postings.old block_offsets.old summary_components.old
         component_offsets.old summary_ids.old codes.old minimums.old steps.old) }
 {
-    clearing::clear_u64(postings);
-    clearing::clear_u64(block_offsets);
-    clearing::clear_u32(summary_components);
-    clearing::clear_u64(component_offsets);
-    clearing::clear_u16(summary_ids);
-    clearing::clear_u8(codes);
-    clearing::clear_f32(minimums);
-    clearing::clear_f32(steps);
+    clearing::clear(postings);
+    clearing::clear(block_offsets);
+    clearing::clear(summary_components);
+    clearing::clear(component_offsets);
+    clearing::clear(summary_ids);
+    clearing::clear(codes);
+    clearing::clear(minimums);
+    clearing::clear(steps);
 }
 
 // Sets the work space to zero.
@@ -36,10 +36,10 @@ pub fn clear_work(keys: &mut [u64], places: &mut [u64], maxima: &mut [f32], coun
     ensures maxima { maxima.new ≡ float_zeros maxima.old }
     ensures counts { counts.new ≡ zeros counts.old }
 {
-    clearing::clear_u64(keys);
-    clearing::clear_u64(places);
-    clearing::clear_f32(maxima);
-    clearing::clear_u64(counts);
+    clearing::clear(keys);
+    clearing::clear(places);
+    clearing::clear(maxima);
+    clearing::clear(counts);
 }
 
 // Sets all scratch to zero.
@@ -60,15 +60,15 @@ pub fn clear_scratch(
         weights.new sums.new keys.new ≡ cleared_scratch (scratches order.old blocks.old sorted.old known.old
         taken.old counts.old starts.old slots.old weights.old sums.old keys.old) }
 {
-    clearing::clear_u64(order);
-    clearing::clear_u64(blocks);
-    clearing::clear_u64(sorted);
-    clearing::clear_u64(known);
-    clearing::clear_u64(taken);
-    clearing::clear_u64(counts);
-    clearing::clear_u64(starts);
-    clearing::clear_u64(slots);
-    clearing::clear_f32(weights);
-    clearing::clear_f32(sums);
-    clearing::clear_u64(keys);
+    clearing::clear(order);
+    clearing::clear(blocks);
+    clearing::clear(sorted);
+    clearing::clear(known);
+    clearing::clear(taken);
+    clearing::clear(counts);
+    clearing::clear(starts);
+    clearing::clear(slots);
+    clearing::clear(weights);
+    clearing::clear(sums);
+    clearing::clear(keys);
 }

@@ -37,8 +37,8 @@ fn note(
     sparse_layout::tally(keys, entry_counts);
     let extent = sparse_layout::extent_of_keys(keys);
     let b = number.0 as usize;
-    cells::put_f32(minimums, b, extent.least);
-    cells::put_f32(steps, b, quantizing::step_of(extent.least, extent.greatest));
+    cells::put(minimums, b, extent.least);
+    cells::put(steps, b, quantizing::step_of(extent.least, extent.greatest));
 }
 
 // Notes the terms that the keys stand for, and stores the keys at a place; answers the place after them.
@@ -200,8 +200,8 @@ pub fn count(
         ≡ kept_in (full_first (tops (limit_of dimension (length keys.old) (length places.old) (length maxima.old)) strategy
         (documents offsets.now components.now values.now) order.now blocks.now)) store.old }
 {
-    clearing::clear_u64(entry_counts);
-    clearing::clear_u64(store);
+    clearing::clear(entry_counts);
+    clearing::clear(store);
     let full = count_blocks(
         dimension,
         strategy,

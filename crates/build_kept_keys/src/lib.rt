@@ -31,6 +31,6 @@ pub fn frame_length(at: usize, store: &[u64]) -> usize
     ensures { result ≡ in_front (drop at store.now) }
 {
     let places = store.len().saturating_sub(at);
-    let n = cells::at_u64(store, at, 0);
+    let n = cells::at(store, at, 0);
     if n < places as u64 { n as usize } else { 0 }
 }

@@ -1,4 +1,5 @@
 -- What both passes leave in the output is the result, in front of each buffer.
+use Rattle.std.specs.Prelude.{Ok}
 use Prim.Native.Nat.{ℕ, ◌+◌, ◌-◌, ◌≤◌, min}
 use native.Mathlib.Omega.{arith}
 use mathlib.Core.Path.{◌≡◌, sym, ap, ◌∙◌}
@@ -9,7 +10,6 @@ use lib.Seq.{sets, sets-eq, take_at, length-take-le}
 use lib.Dec.{leb, ltb, eqb}
 use lib.Ieee.{Float}
 use borrow.Author.Tests.{ltb-false, leb-true, not-false}
-use Rattle.refusal.specs.declared.Verdict.TheVariants as verdict
 use Rattle.refusal.specs.First.{Faultless}
 use Rattle.refusal.specs.Laws.First.{faultless, accepted-by}
 use Rattle.configuration.specs.declared.SummarizationStrategy.{SummarizationStrategy}
@@ -50,7 +50,7 @@ sets-front : {A : Type 0} (l out : List A) → length out ≤ length l → sets 
 sets-front l out h = sets-eq out l 0 (omega arith) ∙ ap (λ n. out ++ drop n l) (let w : 0 + length out ≡ length out = omega arith in w)
 
 module _ (dimension : ℕ) (s : SummarizationStrategy) (d : Documents) (order blocks keys places : List ℕ) (maxima : List Float) (counts : List ℕ) (o : Outputs)
-    (accepted : laid_verdict dimension s d order blocks (counting keys places maxima counts o.minimums o.steps) (output_lengths o) ≡ verdict.Accepted) where
+    (accepted : laid_verdict dimension s d order blocks (counting keys places maxima counts o.minimums o.steps) (output_lengths o) ≡ Ok tt) where
   abbrev bs : List (List ℕ)
   bs = between blocks order
 

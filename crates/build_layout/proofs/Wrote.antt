@@ -1,4 +1,5 @@
 -- The whole of writing: what the verdict says of the parts, and what they leave together.
+use Rattle.std.specs.Prelude.{Result, Ok, Err}
 use Prim.Native.Nat.{ℕ, ◌<◌}
 use mathlib.Core.Path.{◌≡◌, refl, sym, ap, ◌∙◌}
 use mathlib.Core.Bool.{Bool, true, false, true≢false}
@@ -8,11 +9,7 @@ use lib.IntN.{pos}
 use lib.Dec.{T}
 use lib.Ieee.{Float, fin, nan, binary32, fits}
 use Rattle.refusal.specs.declared.Refusal.{Refusal}
-use Rattle.refusal.specs.declared.Verdict.{Verdict}
-use Rattle.refusal.specs.declared.Verdict.TheVariants as verdict
 use Rattle.build_meaning.specs.declared.BuiltSizes.{BuiltSizes}
-use Rattle.build_meaning.specs.declared.BuildAnswer.{BuildAnswer}
-use Rattle.build_meaning.specs.declared.BuildAnswer.TheVariants as answer
 use Rattle.build_meaning.specs.Built.{Built}
 use Rattle.build_meaning.specs.Building.{Outputs, outputs, output_lengths, zeros, float_zeros, cleared_output, answer_by}
 use Rattle.configuration.specs.declared.SummarizationStrategy.{SummarizationStrategy}
@@ -28,17 +25,17 @@ use Rattle.build_layout.specs.Laid.{built_from, laid_verdict, Left, left, output
 use Rattle.build_layout.proofs.Filled.{filled_is}
 
 -- ---- the answer tells the verdict
-abbrev is_built : BuildAnswer → Bool
-is_built (answer.Refused r) = false
-is_built (answer.Built b) = true
+abbrev is_built : Result BuiltSizes Refusal → Bool
+is_built (Err r) = false
+is_built (Ok b) = true
 
-refused-by-answer : (v : Verdict) (b : Built) (r : Refusal) → answer.Refused r ≡ answer_by v b → (q : Refusal) × (v ≡ verdict.Refused q)
-refused-by-answer verdict.Accepted b r e = absurd (true≢false (sym (ap is_built e)))
-refused-by-answer (verdict.Refused q) b r e = (q, refl)
+refused-by-answer : (v : Result (Unit {0}) Refusal) (b : Built) (r : Refusal) → Err r ≡ answer_by v b → (q : Refusal) × (v ≡ Err q)
+refused-by-answer (Ok _) b r e = absurd (true≢false (sym (ap is_built e)))
+refused-by-answer (Err q) b r e = (q, refl)
 
-accepted-by-answer : (v : Verdict) (b : Built) (z : BuiltSizes) → answer.Built z ≡ answer_by v b → v ≡ verdict.Accepted
-accepted-by-answer verdict.Accepted b z e = refl
-accepted-by-answer (verdict.Refused q) b z e = absurd (true≢false (ap is_built e))
+accepted-by-answer : (v : Result (Unit {0}) Refusal) (b : Built) (z : BuiltSizes) → Ok z ≡ answer_by v b → v ≡ Ok tt
+accepted-by-answer (Ok _) b z e = refl
+accepted-by-answer (Err q) b z e = absurd (true≢false (ap is_built e))
 
 -- ---- zeros over a buffer of the same length
 pub same-zeros : (l k z : List ℕ) → z ≡ zeros k → length k ≡ length l → z ≡ zeros l
@@ -55,10 +52,10 @@ tops-held limit s d narrow fit (block ∷ bs) = (top-held s limit d block narrow
 
 -- ---- settled after the first pass, it is what the verdict says
 module _ (dimension : ℕ) (s : SummarizationStrategy) (d : Documents) (order blocks k p : List ℕ) (m : List Float) (c : List ℕ) (o : Outputs) (k1 p1 : List ℕ) (m1 : List Float) (c1 : List ℕ) (low step : List Float)
-    (hk : length k1 ≡ length k) (hp : length p1 ≡ length p) (hm : length m1 ≡ length m) (hc : length c1 ≡ length c) (hl : length low ≡ length o.minimums) (hs : length step ≡ length o.steps) (a : BuildAnswer)
+    (hk : length k1 ≡ length k) (hp : length p1 ≡ length p) (hm : length m1 ≡ length m) (hc : length c1 ≡ length c) (hl : length low ≡ length o.minimums) (hs : length step ≡ length o.steps) (a : Result BuiltSizes Refusal)
     (measured : Measures dimension s d order blocks (counting k p m c o.minimums o.steps) (output_lengths o) a (counting k1 p1 m1 c1 low step))
     (narrow : (k : ℕ) → get_or d.components k 0 < 4294967296) (fit : (k : ℕ) → T (fits binary32 (get_or d.values k nan))) (store store1 : List ℕ) (stored : store1 ≡ measured_store dimension s d order blocks (counting k p m c o.minimums o.steps) store) where
-  abbrev v : Verdict
+  abbrev v : Result (Unit {0}) Refusal
   v = laid_verdict dimension s d order blocks (counting k p m c o.minimums o.steps) (output_lengths o)
 
   abbrev b : Built
@@ -71,11 +68,11 @@ module _ (dimension : ℕ) (s : SummarizationStrategy) (d : Documents) (order bl
   unfolding cleared_output
   cleared = λ j. outputs (zeros o.postings) (zeros o.block_offsets) (zeros o.summary_components) (zeros o.component_offsets) (zeros o.summary_ids) (zeros o.codes) (same-float-zeros o.minimums low (float_zeros low) refl hl j) (same-float-zeros o.steps step (float_zeros step) refl hs j)
 
-  ended : (a : BuildAnswer) → a ≡ answer_by v b → settled a dimension s d order blocks store1 between-passes k1 p1 m1 c1 ≡ left_by v b o k p m c
-  ended (answer.Refused r) e =
+  ended : (a : Result BuiltSizes Refusal) → a ≡ answer_by v b → settled a dimension s d order blocks store1 between-passes k1 p1 m1 c1 ≡ left_by v b o k p m c
+  ended (Err r) e =
       let q = refused-by-answer v b r e in
       (λ j. left (e j) ((cleared ∙ sym (ap (λ v. output_by v b o) q.1)) j) (same-zeros k k1 (zeros k1) refl hk j) (same-zeros p p1 (zeros p1) refl hp j) (same-float-zeros m m1 (float_zeros m1) refl hm j) (same-zeros c c1 (zeros c1) refl hc j))
-  ended (answer.Built z) e =
+  ended (Ok z) e =
       let q = accepted-by-answer v b z e in
       (λ j. left (e j) ((filled_is dimension s d order blocks k p m c o q (tops-held dimension s d narrow fit (between blocks order)) store store1 stored k1 p1 m1 c1 low step hk hp hm
       measured.left ∙ sym (ap (λ v. output_by v b o) q)) j) (same-zeros k k1 (zeros k1) refl hk j) (same-zeros p p1 (zeros p1) refl hp j) (same-float-zeros m m1 (float_zeros m1) refl hm j) (same-zeros c c1 (zeros c1) refl hc j))

@@ -8,7 +8,8 @@ ghost use Rattle.build_count_pass.specs.Counting.{counting};
 ghost use Rattle.build_meaning.specs.Building.{outputs, output_lengths, zeros};
 ghost use Rattle.build_layout.specs.Laid.{built_from, laid_verdict, left, left_by};
 
-use build_meaning::BuildAnswer;
+use refusal::Refusal;
+use build_meaning::Result<BuiltSizes, Refusal>;
 use build_sizes::OutputLengths;
 use configuration::SummarizationStrategy;
 
@@ -41,7 +42,7 @@ pub fn write(
     maxima: &mut [f32],
     entry_counts: &mut [u64],
     store: &mut [u64],
-) -> BuildAnswer
+) -> Result<BuiltSizes, Refusal>
     ensures left { left result (outputs postings.new block_offsets.new summary_components.new component_offsets.new
         summary_ids.new codes.new minimums.new steps.new) keys.new places.new maxima.new
         entry_counts.new ≡ left_by (laid_verdict dimension strategy (documents offsets.now components.now values.now)
@@ -103,6 +104,6 @@ pub fn write(
         entry_counts,
         store,
     );
-    clearing::clear_u64(store);
+    clearing::clear(store);
     settled
 }

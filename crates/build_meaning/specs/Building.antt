@@ -1,15 +1,12 @@
 -- What a build answers, and what it leaves in the lent buffers. Document 01, "Numbered refusals".
-use Rattle.std.specs.Prelude.{ℕ, Bool, not, List, [], ◌∷◌, ◌++◌, length, drop, eqb, Float}
+use Rattle.refusal.specs.declared.Refusal.{Refusal}
+use Rattle.std.specs.Prelude.{ℕ, Bool, not, List, [], ◌∷◌, ◌++◌, length, drop, eqb, Float, Result, Ok, Err}
 use Rattle.refusal.specs.declared.Refusal.TheVariants.{BufferTooShort, EmptySummary}
-use Rattle.refusal.specs.declared.Verdict.{Verdict}
-use Rattle.refusal.specs.declared.Verdict.TheVariants.{Accepted, Refused}
 use Rattle.refusal.specs.Refusals.{number_of}
 use Rattle.refusal.specs.First.{Test, ◌gives◌, first_of}
 use Rattle.sequences.specs.Lists.{every}
 use Rattle.build_admission.specs.Admission.{input_tests}
 use Rattle.build_meaning.specs.declared.BuiltSizes.{BuiltSizes}
-use Rattle.build_meaning.specs.declared.BuildAnswer.{BuildAnswer}
-use Rattle.build_meaning.specs.declared.BuildAnswer.TheVariants as answer
 use Rattle.build_meaning.specs.Built.{Input, Built, summaries, built}
 use Rattle.build_meaning.specs.Needs.{sizes_of, scratch_needs, scratch_suffices, Output, output_suffices}
 pub use Rattle.clearing.specs.Zeros.{zeros, float_zeros}
@@ -66,7 +63,7 @@ room_tests g lent =
 unfoldable pub tests : Input → Lent → List Test
 tests g lent = input_tests g.dimension g.blocking g.documents g.ids g.centroids ++ room_tests g lent
 
-unfoldable pub verdict_of : Input → Lent → Verdict
+unfoldable pub verdict_of : Input → Lent → Result (Unit {0}) Refusal
 verdict_of g lent = first_of (tests g lent)
 
 -- ---- what it leaves
@@ -100,9 +97,9 @@ filled b o = record {
 }
 
 -- a refused build sets all output to zero, an accepted one leaves it past its result; both zero the scratch
-abbrev pub left_by : Verdict → Input → Lent → Lent
-left_by Accepted g lent = record { output = filled (built g) lent.output; scratch = cleared_scratch lent.scratch }
-left_by (Refused r) g lent = record { output = cleared_output lent.output; scratch = cleared_scratch lent.scratch }
+abbrev pub left_by : Result (Unit {0}) Refusal → Input → Lent → Lent
+left_by (Ok _) g lent = record { output = filled (built g) lent.output; scratch = cleared_scratch lent.scratch }
+left_by (Err r) g lent = record { output = cleared_output lent.output; scratch = cleared_scratch lent.scratch }
 
 unfoldable pub left : Input → Lent → Lent
 left g lent = left_by (verdict_of g lent) g lent
@@ -117,9 +114,9 @@ sizes_built b = record {
   summaries = length b.summaries.minimums;
 }
 
-abbrev pub answer_by : Verdict → Built → BuildAnswer
-answer_by Accepted b = answer.Built (sizes_built b)
-answer_by (Refused r) b = answer.Refused r
+abbrev pub answer_by : Result (Unit {0}) Refusal → Built → Result BuiltSizes Refusal
+answer_by (Ok _) b = Ok (sizes_built b)
+answer_by (Err r) b = Err r
 
 -- an answer in document 01's terms, under the names of include/merino.h: the number of the refusal, 0 for none, and how many numbers of
 -- the result stand in front of the output buffers, none where the build is refused
@@ -134,15 +131,15 @@ pub record InNumbers : Type 0 where
 abbrev pub numbers : ℕ → ℕ → ℕ → ℕ → ℕ → ℕ → InNumbers
 numbers n p o c e s = record { number = n; postings_written = p; block_offsets_written = o; summary_components_written = c; entries_written = e; summaries_written = s }
 
-abbrev pub in_numbers : BuildAnswer → InNumbers
-in_numbers (answer.Refused r) = numbers (number_of r) 0 0 0 0 0
-in_numbers (answer.Built s) = numbers 0 s.postings s.block_offsets s.summary_components s.entries s.summaries
+abbrev pub in_numbers : Result BuiltSizes Refusal → InNumbers
+in_numbers (Err r) = numbers (number_of r) 0 0 0 0 0
+in_numbers (Ok s) = numbers 0 s.postings s.block_offsets s.summary_components s.entries s.summaries
 
 pub record Left : Type 0 where
-  pub answer : BuildAnswer
+  pub answer : Result BuiltSizes Refusal
   pub lent : Lent
 
-abbrev pub leaves : BuildAnswer → Lent → Left
+abbrev pub leaves : Result BuiltSizes Refusal → Lent → Left
 leaves a l = record { answer = a; lent = l }
 
 -- a build as a whole: its answer, and all that was lent

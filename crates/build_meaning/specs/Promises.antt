@@ -1,11 +1,10 @@
 -- What a build promises, over the definitions alone: each summary can be stored, and a built list is never refused for 9. Blocks share out
 -- the list by Laws/Shares.
-use Rattle.std.specs.Prelude.{ℕ, ◌≤◌, ◌<◌, ◌≡◌, true, length, get_or}
+use Rattle.std.specs.Prelude.{ℕ, ◌≤◌, ◌<◌, ◌≡◌, true, length, get_or, Ok}
 use Rattle.std.proofs.Common.{arith, sym}
 use Rattle.std.proofs.Math.Path.{subst}
 use Rattle.std.proofs.lemmas.List.{length-map}
 use borrow.Author.Tests.{ltb-false, not-false}
-use Rattle.refusal.specs.declared.Verdict.TheVariants.{Accepted}
 use Rattle.refusal.specs.First.{Faultless}
 use Rattle.refusal.specs.Laws.First.{faultless, faultless-both}
 use Rattle.sequences.specs.Lists.{EachOf}
@@ -26,7 +25,7 @@ use Rattle.build_meaning.specs.Laws.Offsets.{blocks-hold, as_many, few-blocks}
 use Rattle.build_meaning.specs.Laws.Stored.{summaries-storable}
 
 -- a slice of u32 and one of f32 hold nothing else
-module _ (g : Input) (lent : Lent) (narrow : (k : ℕ) → get_or g.documents.components k 0 < 4294967296) (fs : F32s g.documents.values) (accepted : verdict_of g lent ≡ Accepted) where
+module _ (g : Input) (lent : Lent) (narrow : (k : ℕ) → get_or g.documents.components k 0 < 4294967296) (fs : F32s g.documents.values) (accepted : verdict_of g lent ≡ Ok tt) where
   found : Faultless (input_tests g.dimension g.blocking g.documents g.ids g.centroids) × Faultless (room_tests g lent)
   unfolding verdict_of tests
   found = faultless-both (input_tests g.dimension g.blocking g.documents g.ids g.centroids) (room_tests g lent) (faultless (tests g lent) accepted)

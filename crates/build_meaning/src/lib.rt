@@ -19,9 +19,3 @@ pub struct BuiltSizes {
     pub summaries: u64,
 }
 
-// What a build comes to.
-#[derive(Drop)]
-pub enum BuildAnswer {
-    Refused(Refusal),
-    Built(BuiltSizes),
-}

@@ -10,8 +10,8 @@ ghost use Rattle.build_sizes.specs.Sized.{posting_of};
 ghost use Rattle.build_output.specs.Placed.{written, second_pass};
 ghost use Rattle.build_output.specs.Settled.{left, settled};
 
-use build_meaning::BuildAnswer;
-use cells::shorter;
+use refusal::Refusal;
+use build_meaning::Result<BuiltSizes, Refusal>;
 use configuration::SummarizationStrategy;
 use number_types::DocumentId;
 use packing::PackedPosting;
@@ -28,7 +28,7 @@ fn posting(offsets: &[u64], id: DocumentId) -> u64
 fn write_postings(offsets: &[u64], order: &[u64], postings: &mut [u64])
     ensures { postings.new ≡ sets postings.old 0 (map (posting_of (documents offsets.now [] [])) order.now) }
 {
-    let end = shorter(order.len(), postings.len());
+    let end = order.len().min(postings.len());
     for i in 0..end {
         postings[i] = posting(offsets, DocumentId(order[i]));
     }
@@ -38,7 +38,7 @@ fn write_postings(offsets: &[u64], order: &[u64], postings: &mut [u64])
 fn write_offsets(blocks: &[u64], block_offsets: &mut [u64])
     ensures { block_offsets.new ≡ sets block_offsets.old 0 blocks.now }
 {
-    let end = shorter(blocks.len(), block_offsets.len());
+    let end = blocks.len().min(block_offsets.len());
     block_offsets[..end].copy_from_slice(&blocks[..end]);
 }
 
@@ -77,7 +77,7 @@ fn place(
     ensures maxima { maxima.new ≡ float_zeros maxima.old }
     ensures entry_counts { entry_counts.new ≡ zeros entry_counts.old }
 {
-    let n = shorter(dimension as usize, entry_counts.len());
+    let n = (dimension as usize).min(entry_counts.len());
     sparse_layout::lay(
         &mut entry_counts[..n],
         summary_components,
@@ -99,7 +99,7 @@ fn place(
         codes,
         store,
     );
-    clearing::clear_u64(entry_counts);
+    clearing::clear(entry_counts);
     write_postings(offsets, order, postings);
     write_offsets(blocks, block_offsets);
 }
@@ -111,7 +111,7 @@ fn place(
 // components of each, which are sorted, and to the documents, the blocks, the dimension and the work space, which is cleared. After a
 // refusal it is the lengths of the output and of the work space.
 pub fn settle(
-    answer: BuildAnswer,
+    answer: Result<BuiltSizes, Refusal>,
     dimension: u64,
     strategy: SummarizationStrategy,
     offsets: &[u64],
@@ -132,7 +132,7 @@ pub fn settle(
     maxima: &mut [f32],
     entry_counts: &mut [u64],
     store: &[u64],
-) -> BuildAnswer
+) -> Result<BuiltSizes, Refusal>
     ensures { left result (outputs postings.new block_offsets.new summary_components.new component_offsets.new
         summary_ids.new codes.new minimums.new steps.new) keys.new places.new maxima.new
         entry_counts.new ≡ settled answer dimension strategy (documents offsets.now components.now values.now)
@@ -141,7 +141,7 @@ pub fn settle(
         places.old maxima.old entry_counts.old }
 {
     match answer {
-        BuildAnswer::Refused(reason) => {
+        Err(reason) => {
             build_clearing::clear_output(
                 postings,
                 block_offsets,
@@ -153,9 +153,9 @@ pub fn settle(
                 steps,
             );
             build_clearing::clear_work(keys, places, maxima, entry_counts);
-            BuildAnswer::Refused(reason)
+            Err(reason)
         }
-        BuildAnswer::Built(sizes) => {
+        Ok(sizes) => {
             place(
                 dimension,
                 strategy,
@@ -176,7 +176,7 @@ pub fn settle(
                 codes,
                 store,
             );
-            BuildAnswer::Built(sizes)
+            Ok(sizes)
         }
     }
 }

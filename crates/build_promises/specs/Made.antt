@@ -1,8 +1,7 @@
 -- What a caller of a build has, from its contract's equation and its answer alone: the built list where it stands, with all that is
 -- promised of it; or the refusal, with everything zero.
-use Rattle.std.specs.Prelude.{ℕ, suc, ◌<◌, ◌≡◌, true, [], get_or, take, drop}
+use Rattle.std.specs.Prelude.{ℕ, suc, ◌<◌, ◌≡◌, true, [], get_or, take, drop, Ok, Err}
 use Rattle.refusal.specs.declared.Refusal.{Refusal}
-use Rattle.refusal.specs.declared.Verdict.TheVariants.{Accepted, Refused}
 use Rattle.refusal.specs.First.{FirstFault}
 use Rattle.sparse_scores.specs.Layout.{arrays}
 use Rattle.sparse_scores.specs.WellFormed.{well_formed}
@@ -33,7 +32,7 @@ past n o =
 
 -- a list was built: `lent` is what was lent at entry, and `after` what lies there at exit
 pub record Made (g : Input) (lent : Lent) (sizes : BuiltSizes) (after : Lent) : Type 0 where
-  pub accepted : verdict_of g lent ≡ Accepted
+  pub accepted : verdict_of g lent ≡ Ok tt
   pub sizes_are : sizes ≡ sizes_built (built g)
   -- the result stands in front of its buffers; past it nothing changed, and scratch is zero
   pub list : standing sizes after.output ≡ built g
@@ -49,7 +48,7 @@ pub record Made (g : Input) (lent : Lent) (sizes : BuiltSizes) (after : Lent) : 
 
 -- a build was refused: for the first of its tests that finds a fault, and all that was lent is zero
 pub record Unmade (g : Input) (lent : Lent) (reason : Refusal) (after : Lent) : Type 0 where
-  pub refused : verdict_of g lent ≡ Refused reason
+  pub refused : verdict_of g lent ≡ Err reason
   pub first : FirstFault (tests g lent) reason
   pub output : after.output ≡ cleared_output lent.output
   pub scratch : after.scratch ≡ cleared_scratch lent.scratch

@@ -1,10 +1,9 @@
 -- What a search reads of a built list: each block's summary, near to what was summarized. Demand 3, of stored codes.
-use Rattle.std.specs.Prelude.{ℕ, ◌<◌, ◌≡◌, get_or}
+use Rattle.std.specs.Prelude.{ℕ, ◌<◌, ◌≡◌, get_or, Ok}
 use native.Mathlib.Omega.{arith}
 use Rattle.std.proofs.Math.Path.{subst}
 use mathlib.Core.List.{List, []}
 use Rattle.std.proofs.Math.ListN.{length, length-map}
-use Rattle.refusal.specs.declared.Verdict.TheVariants.{Accepted}
 use Rattle.sequences.specs.Laws.Lists.{map_at}
 use Rattle.sequences.specs.Laws.Each.{each_at}
 use Rattle.documents.specs.Documents.{Term}
@@ -24,7 +23,7 @@ abbrev pub summary_at : Input → ℕ → List Term
 summary_at g b = summary g.summarization g.documents (get_or (block_documents g) b [])
 
 -- a slice of u32 and one of f32 hold nothing else
-module _ (g : Input) (lent : Lent) (narrow : (k : ℕ) → get_or g.documents.components k 0 < 4294967296) (fs : F32s g.documents.values) (accepted : verdict_of g lent ≡ Accepted) where
+module _ (g : Input) (lent : Lent) (narrow : (k : ℕ) → get_or g.documents.components k 0 < 4294967296) (fs : F32s g.documents.values) (accepted : verdict_of g lent ≡ Ok tt) where
   -- every summary of the list
   pub built-near : (b : ℕ) → b < length (built g).summaries.minimums → StoredNear (built g).summaries b (summary_at g b)
   unfolding built layout summaries

@@ -1,4 +1,5 @@
 -- The first refusal, and scratch whose lengths are numbers of 64 bits.
+use Rattle.std.specs.Prelude.{Result, Ok, Err}
 use Prim.Native.Nat.{ℕ, ◌*◌, ◌<◌}
 use native.Mathlib.Omega.{arith}
 use mathlib.Core.Path.{◌≡◌, refl, sym, ap, ◌∙◌}
@@ -9,8 +10,6 @@ use lib.Dec.{leb}
 use borrow.Author.Tests.{leb-true, leb-false, le-leb, lt-leb}
 use Rattle.refusal.specs.declared.Refusal.{Refusal}
 use Rattle.refusal.specs.declared.Refusal.TheVariants.{BufferTooShort}
-use Rattle.refusal.specs.declared.Verdict.{Verdict}
-use Rattle.refusal.specs.declared.Verdict.TheVariants as verdict
 use Rattle.refusal.specs.First.{Test, ◌gives◌, first_of}
 use Rattle.refusal.specs.Laws.First.{faultless, first-after, first-refused}
 use Rattle.configuration.specs.declared.BlockingStrategy.{BlockingStrategy}
@@ -22,22 +21,22 @@ use Rattle.scratch.specs.declared.ScratchLengths.{ScratchLengths}
 use Rattle.build_scratch.specs.Lengths.{capped, shown}
 use Rattle.build_ready.specs.Made.{make_tests}
 
-pub refused-early : (a b : List Test) (v : Verdict) (r : Refusal) → v ≡ first_of a → v ≡ verdict.Refused r → verdict.Refused r ≡ first_of (a ++ b)
+pub refused-early : (a b : List Test) (v : Result (Unit {0}) Refusal) (r : Refusal) → v ≡ first_of a → v ≡ Err r → Err r ≡ first_of (a ++ b)
 refused-early a b v r e h = sym (first-refused a b r (sym e ∙ h))
 
 abbrev room_test : ScratchLengths → ScratchLengths → List Test
 room_test x lent = (not (scratch_suffices (shown x) lent) gives BufferTooShort) ∷ []
 
-late : (a : List Test) (v : Verdict) (x : ScratchLengths) (needed lent : ScratchLengths) (b : Bool) → v ≡ first_of a → v ≡ verdict.Accepted → needed ≡ shown x → b ≡ scratch_suffices needed lent
-    → first_of (a ++ room_test x lent) ≡ cond (not b) (verdict.Refused BufferTooShort) verdict.Accepted
-late a v x needed lent b e h n s = first-after a (room_test x lent) (faultless a (sym e ∙ h)) ∙ ap (λ b. cond (not b) (verdict.Refused BufferTooShort) verdict.Accepted) (sym (s ∙ ap (λ n. scratch_suffices n lent) n))
+late : (a : List Test) (v : Result (Unit {0}) Refusal) (x : ScratchLengths) (needed lent : ScratchLengths) (b : Bool) → v ≡ first_of a → v ≡ Ok tt → needed ≡ shown x → b ≡ scratch_suffices needed lent
+    → first_of (a ++ room_test x lent) ≡ cond (not b) (Err BufferTooShort) (Ok tt)
+late a v x needed lent b e h n s = first-after a (room_test x lent) (faultless a (sym e ∙ h)) ∙ ap (λ b. cond (not b) (Err BufferTooShort) (Ok tt)) (sym (s ∙ ap (λ n. scratch_suffices n lent) n))
 
-module _ (a : List Test) (v : Verdict) (x : ScratchLengths) (needed lent : ScratchLengths) (b : Bool) (e : v ≡ first_of a) (h : v ≡ verdict.Accepted) (n : needed ≡ shown x) (s : b ≡ scratch_suffices needed lent) where
-  pub refused-late : b ≡ false → verdict.Refused BufferTooShort ≡ first_of (a ++ room_test x lent)
-  refused-late f = sym (late a v x needed lent b e h n s ∙ ap (λ b. cond (not b) (verdict.Refused BufferTooShort) verdict.Accepted) f)
+module _ (a : List Test) (v : Result (Unit {0}) Refusal) (x : ScratchLengths) (needed lent : ScratchLengths) (b : Bool) (e : v ≡ first_of a) (h : v ≡ Ok tt) (n : needed ≡ shown x) (s : b ≡ scratch_suffices needed lent) where
+  pub refused-late : b ≡ false → Err BufferTooShort ≡ first_of (a ++ room_test x lent)
+  refused-late f = sym (late a v x needed lent b e h n s ∙ ap (λ b. cond (not b) (Err BufferTooShort) (Ok tt)) f)
 
-  pub accepted-late : b ≡ true → verdict.Accepted ≡ first_of (a ++ room_test x lent)
-  accepted-late f = sym (late a v x needed lent b e h n s ∙ ap (λ b. cond (not b) (verdict.Refused BufferTooShort) verdict.Accepted) f)
+  pub accepted-late : b ≡ true → Ok tt ≡ first_of (a ++ room_test x lent)
+  accepted-late f = sym (late a v x needed lent b e h n s ∙ ap (λ b. cond (not b) (Err BufferTooShort) (Ok tt)) f)
 
 -- ---- no slice is as long as the greatest u64
 pub record Short (s : Scratches) : Type 0 where
@@ -76,7 +75,7 @@ capped-suffices x s h =
     && (cap x.weights (length s.weights) h.weights j && (cap x.sums (length s.sums) h.sums j && cap x.keys (length s.keys) h.keys j)))))))))
 
 -- ---- the verdict over the lent buffers
-pub judged : (dimension : ℕ) (k : BlockingStrategy) (d : Documents) (ids centroids : List ℕ) (s : Scratches) → Short s → (v : Verdict)
+pub judged : (dimension : ℕ) (k : BlockingStrategy) (d : Documents) (ids centroids : List ℕ) (s : Scratches) → Short s → (v : Result (Unit {0}) Refusal)
     → v ≡ first_of (input_tests dimension k d ids centroids ++ ((not (scratch_suffices (shown (scratch_needs (sizes_for dimension k d ids centroids))) (scratch_lengths s)) gives BufferTooShort) ∷ []))
     → v ≡ first_of (make_tests dimension k d ids centroids s)
 judged dimension k d ids centroids s short v e = e ∙ ap (λ b. first_of (input_tests dimension k d ids centroids ++ ((not b gives BufferTooShort) ∷ []))) (capped-suffices (scratch_needs (sizes_for dimension k d ids centroids)) s short)

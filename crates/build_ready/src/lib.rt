@@ -12,15 +12,8 @@ ghost use Rattle.build_scratch.specs.Lengths.{shown};
 ghost use Rattle.build_ready.specs.Made.{make_tests};
 
 use configuration::BlockingStrategy;
-use refusal::{Refusal, Verdict};
+use refusal::Refusal;
 use scratch::ScratchLengths;
-
-// What making the blocks of a list answers: the refusal, or how many block offsets there are: one more than blocks, or none.
-#[derive(Drop)]
-pub enum ListBlocks {
-    Refused(Refusal),
-    Offsets(u64),
-}
 
 // The first refusal of what looks at the input alone, and then 4 where the scratch buffers of these lengths are too short.
 fn judge(
@@ -32,7 +25,7 @@ fn judge(
     ids: &[u64],
     centroids: &[u64],
     lent: ScratchLengths,
-) -> Verdict
+) -> Result<(), Refusal>
     ensures { result ≡ first_of (input_tests dimension blocking (documents offsets.now components.now values.now) ids.now centroids.now
         ++ ((not (scratch_suffices (shown (scratch_needs (sizes_for dimension blocking (documents offsets.now components.now values.now) ids.now
         centroids.now))) lent) gives BufferTooShort) ∷ [])) }
@@ -40,16 +33,16 @@ fn judge(
     let verdict = build_admission::admitted(
         dimension, blocking, offsets, components, values, ids, centroids,
     );
-    if let Verdict::Refused(reason) = verdict {
-        return Verdict::Refused(reason);
+    if let Err(reason) = verdict {
+        return Err(reason);
     }
     let needed = build_scratch::scratch_needs(
         dimension, blocking, offsets, components, values, ids, centroids,
     );
     if !build_scratch::suffices(needed, lent) {
-        return Verdict::Refused(Refusal::BufferTooShort);
+        return Err(Refusal::BufferTooShort);
     }
-    Verdict::Accepted
+    Ok(())
 }
 
 // Judges what a build is given and how long its scratch is, as far as that can be seen before there are blocks, and sets all scratch to
@@ -73,7 +66,7 @@ pub fn ready(
     weights: &mut [f32],
     sums: &mut [f32],
     keys: &mut [u64],
-) -> Verdict
+) -> Result<(), Refusal>
     ensures answer { result ≡ first_of (make_tests dimension blocking (documents offsets.now components.now values.now) ids.now centroids.now
         (scratches order.old blocks.old sorted.old known.old taken.old counts.old
         starts.old slots.old weights.old sums.old keys.old)) }

@@ -8,16 +8,16 @@ ghost use Rattle.build_meaning.specs.Building.{outputs};
 ghost use Rattle.build_layout.specs.Laid.{left};
 ghost use Rattle.build_result.specs.Finished.{finished, finished_by, slots_by};
 
-use build_meaning::BuildAnswer;
-use build_ready::ListBlocks;
-use cells::shorter;
+use refusal::Refusal;
+use build_meaning::Result<BuiltSizes, Refusal>;
+use build_ready::Result<u64, Refusal>;
 use configuration::SummarizationStrategy;
 
 // Writes the result of a build from the blocks that were made: the first `listed` of `order` and as many of `blocks` as there are
 // offsets; both are zero then, and so is what it works in, `slots` too, where the keys that the blocks keep are stored. Where the blocks
 // were refused all output is zero, the answer is that refusal, and scratch is not touched.
 pub fn finish(
-    made: ListBlocks,
+    made: Result<u64, Refusal>,
     dimension: u64,
     summarization: SummarizationStrategy,
     offsets: &[u64],
@@ -39,7 +39,7 @@ pub fn finish(
     sums: &mut [f32],
     keys: &mut [u64],
     slots: &mut [u64],
-) -> BuildAnswer
+) -> Result<BuiltSizes, Refusal>
     ensures left { finished (left result (outputs postings.new block_offsets.new summary_components.new component_offsets.new
         summary_ids.new codes.new minimums.new steps.new)
         keys.new counts.new sums.new starts.new) order.new blocks.new
@@ -50,7 +50,7 @@ pub fn finish(
     ensures slots { slots.new ≡ slots_by made slots.old }
 {
     match made {
-        ListBlocks::Refused(reason) => {
+        Err(reason) => {
             build_clearing::clear_output(
                 postings,
                 block_offsets,
@@ -61,11 +61,11 @@ pub fn finish(
                 minimums,
                 steps,
             );
-            BuildAnswer::Refused(reason)
+            Err(reason)
         }
-        ListBlocks::Offsets(count) => {
-            let documents = shorter(listed, order.len());
-            let starting = shorter(count as usize, blocks.len());
+        Ok(count) => {
+            let documents = listed.min(order.len());
+            let starting = (count as usize).min(blocks.len());
             let answer = build_layout::write(
                 dimension,
                 summarization,
@@ -88,8 +88,8 @@ pub fn finish(
                 starts,
                 slots,
             );
-            clearing::clear_u64(order);
-            clearing::clear_u64(blocks);
+            clearing::clear(order);
+            clearing::clear(blocks);
             answer
         }
     }

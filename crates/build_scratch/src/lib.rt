@@ -35,7 +35,7 @@ pub fn needs_of_sizes(
 ) -> ScratchLengths
     ensures { result ≡ shown (scratch_needs (sizes ids centroids centroid_terms dimension)) }
 {
-    let most = cells::greater_u64(centroids, dimension);
+    let most = centroids.max(dimension);
     ScratchLengths {
         order: ids,
         blocks: ids.saturating_add(1),

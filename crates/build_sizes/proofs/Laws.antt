@@ -1,4 +1,5 @@
 -- The work space and the room for the result, judged.
+use Rattle.std.specs.Prelude.{Ok, Err}
 use Prim.Native.Nat.{ℕ, ◌-◌}
 use mathlib.Core.Path.{◌≡◌, sym, ap, ◌∙◌}
 use mathlib.Core.Bool.{Bool, true, false, not, cond}
@@ -6,12 +7,10 @@ use mathlib.Core.List.{List, foldl}
 use lib.ListN.{length}
 use lib.Dec.{ltb}
 use Rattle.refusal.specs.declared.Refusal.TheVariants.{OutsideLimits, BufferTooShort}
-use Rattle.refusal.specs.declared.Verdict.TheVariants.{Accepted, Refused}
 use Rattle.refusal.specs.First.{first_of}
 use Rattle.blocking.specs.Limits.{block_limit}
 use Rattle.sparse_layout.specs.Counted.{present_from}
 use Rattle.sparse_layout.specs.Keys.{on_to}
-use Rattle.build_meaning.specs.declared.BuildAnswer.TheVariants as answer
 use Rattle.build_sizes.specs.declared.OutputLengths.{OutputLengths}
 use Rattle.build_sizes.specs.Sized.{dimension_outside, any_short, work_tests, judged_room, room_by, room_answer}
 
@@ -19,15 +18,15 @@ module _ (p o n e b : ℕ) (counts : List ℕ) (l : OutputLengths) (x : n ≡ le
   room-is : room_by p o n e b l ≡ room_answer p o counts l
   room-is = (λ j. room_by p o (x j) (y j) (z j) l)
 
-  pub room-refused : not (judged_room p o n e b l) ≡ true → answer.Refused BufferTooShort ≡ room_answer p o counts l
-  room-refused h = sym (ap (λ t. cond t (answer.Refused BufferTooShort) (answer.Built (record { postings = p; block_offsets = o; summary_components = n; entries = e; summaries = b }))) h) ∙ room-is
+  pub room-refused : not (judged_room p o n e b l) ≡ true → Err BufferTooShort ≡ room_answer p o counts l
+  room-refused h = sym (ap (λ t. cond t (Err BufferTooShort) (Ok (record { postings = p; block_offsets = o; summary_components = n; entries = e; summaries = b }))) h) ∙ room-is
 
-  pub room-found : not (judged_room p o n e b l) ≡ false → answer.Built (record { postings = p; block_offsets = o; summary_components = n; entries = e; summaries = b }) ≡ room_answer p o counts l
-  room-found h = sym (ap (λ t. cond t (answer.Refused BufferTooShort) (answer.Built (record { postings = p; block_offsets = o; summary_components = n; entries = e; summaries = b }))) h) ∙ room-is
+  pub room-found : not (judged_room p o n e b l) ≡ false → Ok (record { postings = p; block_offsets = o; summary_components = n; entries = e; summaries = b }) ≡ room_answer p o counts l
+  room-found h = sym (ap (λ t. cond t (Err BufferTooShort) (Ok (record { postings = p; block_offsets = o; summary_components = n; entries = e; summaries = b }))) h) ∙ room-is
 
 -- ---- the work: each way out by its test
 module _ (dimension offsets keys places maxima counts : ℕ) (o m : Bool) (eo : o ≡ dimension_outside dimension) where
-  pub work-outside : o ≡ true → Refused OutsideLimits ≡ first_of (work_tests dimension (offsets - 1) keys places maxima counts)
+  pub work-outside : o ≡ true → Err OutsideLimits ≡ first_of (work_tests dimension (offsets - 1) keys places maxima counts)
   work-outside h = let z : dimension_outside dimension ≡ true = sym eo ∙ h in rw z
 
   module _ (ho : o ≡ false) (b : ℕ) (eb : b ≡ offsets - 1) (em : m ≡ ltb block_limit b) where
@@ -37,11 +36,11 @@ module _ (dimension offsets keys places maxima counts : ℕ) (o m : Bool) (eo : 
     many_is : ltb block_limit (offsets - 1) ≡ m
     many_is = ap (ltb block_limit) (sym eb) ∙ sym em
 
-    pub work-many : m ≡ true → Refused OutsideLimits ≡ first_of (work_tests dimension (offsets - 1) keys places maxima counts)
+    pub work-many : m ≡ true → Err OutsideLimits ≡ first_of (work_tests dimension (offsets - 1) keys places maxima counts)
     work-many h = let z : ltb block_limit (offsets - 1) ≡ true = many_is ∙ h in rw (inner, z)
 
-    pub work-short : m ≡ false → any_short dimension keys places maxima counts ≡ true → Refused BufferTooShort ≡ first_of (work_tests dimension (offsets - 1) keys places maxima counts)
+    pub work-short : m ≡ false → any_short dimension keys places maxima counts ≡ true → Err BufferTooShort ≡ first_of (work_tests dimension (offsets - 1) keys places maxima counts)
     work-short h k = let z : ltb block_limit (offsets - 1) ≡ false = many_is ∙ h in rw (inner, z, k)
 
-    pub work-accepted : m ≡ false → any_short dimension keys places maxima counts ≡ false → Accepted ≡ first_of (work_tests dimension (offsets - 1) keys places maxima counts)
+    pub work-accepted : m ≡ false → any_short dimension keys places maxima counts ≡ false → Ok tt ≡ first_of (work_tests dimension (offsets - 1) keys places maxima counts)
     work-accepted h k = let z : ltb block_limit (offsets - 1) ≡ false = many_is ∙ h in rw (inner, z, k)

@@ -1,4 +1,6 @@
 -- What the first pass leaves and answers, from what counting left.
+use Rattle.std.specs.Prelude.{Result, Ok, Err}
+use Rattle.build_meaning.specs.declared.BuiltSizes.{BuiltSizes}
 use Prim.Native.Nat.{ℕ, suc, ◌-◌, ◌≤◌}
 use native.Mathlib.Omega.{arith}
 use mathlib.Core.Path.{◌≡◌, refl, sym, ap, ◌∙◌}
@@ -11,8 +13,6 @@ use lib.Ieee.{Float}
 use borrow.Author.Tests.{ltb-false, not-true, not-false}
 use Rattle.refusal.specs.declared.Refusal.{Refusal}
 use Rattle.refusal.specs.declared.Refusal.TheVariants.{BufferTooShort, EmptySummary}
-use Rattle.refusal.specs.declared.Verdict.{Verdict}
-use Rattle.refusal.specs.declared.Verdict.TheVariants as verdict
 use Rattle.refusal.specs.First.{Test, ◌gives◌, first_of, Faultless}
 use Rattle.refusal.specs.Laws.First.{faultless, first-after, first-refused}
 use Rattle.configuration.specs.declared.SummarizationStrategy.{SummarizationStrategy}
@@ -25,8 +25,6 @@ use Rattle.sparse_layout.specs.Placing.{component_of}
 use Rattle.sparse_layout.specs.Laws.Guards.{blank}
 use Rattle.sparse_layout.specs.Keys.{counted}
 use Rattle.summary_terms.specs.Answers.{limit_of}
-use Rattle.build_meaning.specs.declared.BuildAnswer.{BuildAnswer}
-use Rattle.build_meaning.specs.declared.BuildAnswer.TheVariants as answer
 use Rattle.build_meaning.specs.Built.{Built}
 use Rattle.build_meaning.specs.Needs.{output_suffices}
 use Rattle.build_meaning.specs.Building.{answer_by}
@@ -69,7 +67,7 @@ room-agrees b l p o n e m hp ho hn hs hi hc hm ht =
     go true = refl
     go false = refl
 
-module _ (dimension : ℕ) (s : SummarizationStrategy) (d : Documents) (order blocks : List ℕ) (w : Counting) (l : OutputLengths) (v : Verdict) (judged : v ≡ first_of (work_for dimension blocks w)) where
+module _ (dimension : ℕ) (s : SummarizationStrategy) (d : Documents) (order blocks : List ℕ) (w : Counting) (l : OutputLengths) (v : Result (Unit {0}) Refusal) (judged : v ≡ first_of (work_for dimension blocks w)) where
   abbrev T : List (List Term)
   T = tops dimension s d order blocks
 
@@ -77,7 +75,7 @@ module _ (dimension : ℕ) (s : SummarizationStrategy) (d : Documents) (order bl
   last_tests = (not (none_empty T) gives EmptySummary) ∷ (not (output_suffices (built_from dimension s d order blocks) (room_of l)) gives BufferTooShort) ∷ []
 
   -- the work is refused
-  pub measured-refused : (r : Refusal) → v ≡ verdict.Refused r → Measures dimension s d order blocks w (room_of l) (answer.Refused r) w
+  pub measured-refused : (r : Refusal) → v ≡ Err r → Measures dimension s d order blocks w (room_of l) (Err r) w
   unfolding laid_verdict
   measured-refused r f =
       record {
@@ -85,11 +83,11 @@ module _ (dimension : ℕ) (s : SummarizationStrategy) (d : Documents) (order bl
         left = sym (ap (λ v. measured_by v dimension T w) (sym judged ∙ f));
       }
 
-  pub stored_refused : (r : Refusal) → v ≡ verdict.Refused r → (store : List ℕ) → store ≡ measured_store dimension s d order blocks w store
+  pub stored_refused : (r : Refusal) → v ≡ Err r → (store : List ℕ) → store ≡ measured_store dimension s d order blocks w store
   stored_refused r f store = sym (ap (λ v. stored_by v T store) (sym judged ∙ f))
 
   -- it is accepted: there are no more blocks than there may be, and each buffer has room
-  module _ (f : v ≡ verdict.Accepted) where
+  module _ (f : v ≡ Ok tt) where
     faults : Faultless (work_for dimension blocks w)
     faults = faultless (work_for dimension blocks w) (sym judged ∙ f)
 
@@ -133,11 +131,11 @@ module _ (dimension : ℕ) (s : SummarizationStrategy) (d : Documents) (order bl
           ap (λ c. counting c.keys c.places c.maxima (c.entry_counts ++ drop dimension w.entry_counts) c.minimums c.steps) counted_is
           ∙ sym (ap (λ v. measured_by v dimension T w) (sym judged ∙ f))
 
-      pub measured-empty : not full ≡ true → Measures dimension s d order blocks w (room_of l) (answer.Refused EmptySummary) (counting k p m (x ++ drop dimension w.entry_counts) low step)
+      pub measured-empty : not full ≡ true → Measures dimension s d order blocks w (room_of l) (Err EmptySummary) (counting k p m (x ++ drop dimension w.entry_counts) low step)
       measured-empty h =
           let z : none_empty T ≡ false = full_is ∙ not-true full h in
           record {
-            answer = sym (ap (λ v. answer_by v (built_from dimension s d order blocks)) (last-decide ∙ ap (λ b. cond (not b) (verdict.Refused EmptySummary) (first_of ((not (output_suffices (built_from dimension s d order blocks) (room_of l)) gives BufferTooShort) ∷ []))) z));
+            answer = sym (ap (λ v. answer_by v (built_from dimension s d order blocks)) (last-decide ∙ ap (λ b. cond (not b) (Err EmptySummary) (first_of ((not (output_suffices (built_from dimension s d order blocks) (room_of l)) gives BufferTooShort) ∷ []))) z));
             left = left_is;
           }
 
@@ -167,11 +165,11 @@ module _ (dimension : ℕ) (s : SummarizationStrategy) (d : Documents) (order bl
             (sym (entry-count dimension s d bs few small)) (code-count dimension s d bs few small ∙ sym (entry-count dimension s d bs few small))
             (minimum-count dimension s d bs few small ∙ between-count blocks order) (step_count dimension s d bs few small ∙ between-count blocks order)
 
-        pub measured : (r : BuildAnswer) → r ≡ room_answer (length order) (length blocks) (take dimension (x ++ drop dimension w.entry_counts)) l → Measures dimension s d order blocks w (room_of l) r (counting k p m (x ++ drop dimension w.entry_counts) low step)
+        pub measured : (r : Result BuiltSizes Refusal) → r ≡ room_answer (length order) (length blocks) (take dimension (x ++ drop dimension w.entry_counts)) l → Measures dimension s d order blocks w (room_of l) r (counting k p m (x ++ drop dimension w.entry_counts) low step)
         measured r j =
             record {
               answer =
                   j ∙ ap (λ c. room_answer (length order) (length blocks) c l) front ∙ sizes
-                  ∙ sym (ap (λ v. answer_by v (built_from dimension s d order blocks)) (last-decide ∙ ap (λ b. cond (not b) (verdict.Refused EmptySummary) (first_of ((not (output_suffices (built_from dimension s d order blocks) (room_of l)) gives BufferTooShort) ∷ []))) none));
+                  ∙ sym (ap (λ v. answer_by v (built_from dimension s d order blocks)) (last-decide ∙ ap (λ b. cond (not b) (Err EmptySummary) (first_of ((not (output_suffices (built_from dimension s d order blocks) (room_of l)) gives BufferTooShort) ∷ []))) none));
               left = left_is;
             }

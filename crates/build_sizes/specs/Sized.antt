@@ -1,10 +1,9 @@
 -- The result of a list's blocks, when writing it is refused, and what counting its sizes answers and leaves in what it is lent.
+use Rattle.build_meaning.specs.declared.BuiltSizes.{BuiltSizes}
 use Rattle.std.specs.Prelude.{ℕ, ◌+◌, ◌-◌, ◌≡◌, Bool, not, ◌&&◌, ◌||◌, cond, length, take, drop, leb, ltb, eqb, Result, Ok, Err}
 use mathlib.Core.List.{List, [], ◌∷◌, ◌++◌, map, foldl}
 use Rattle.refusal.specs.declared.Refusal.{Refusal}
 use Rattle.refusal.specs.declared.Refusal.TheVariants.{OutsideLimits, BufferTooShort, EmptySummary}
-use Rattle.refusal.specs.declared.Verdict.{Verdict}
-use Rattle.refusal.specs.declared.Verdict.TheVariants as verdict
 use Rattle.refusal.specs.First.{Test, ◌gives◌, first_of}
 use Rattle.packing.specs.declared.PackedPosting.{PackedPosting}
 use Rattle.packing.specs.Packing as range
@@ -14,8 +13,6 @@ use Rattle.documents.specs.Documents.{Term, Documents, start, size}
 use Rattle.sparse_layout.specs.Layouts.{layout}
 use Rattle.sparse_layout.specs.Counted.{present_from}
 use Rattle.sparse_layout.specs.Keys.{on_to}
-use Rattle.build_meaning.specs.declared.BuildAnswer.{BuildAnswer}
-use Rattle.build_meaning.specs.declared.BuildAnswer.TheVariants as answer
 use Rattle.build_meaning.specs.Built.{Built}
 use Rattle.build_meaning.specs.Needs.{Output, output_suffices}
 use Rattle.build_meaning.specs.Building.{answer_by}
@@ -63,7 +60,7 @@ laid_tests dimension strategy d order blocks w room =
     ∷ (not (output_suffices (built_from dimension strategy d order blocks) room) gives BufferTooShort)
     ∷ [])
 
-unfoldable pub laid_verdict : ℕ → SummarizationStrategy → Documents → List ℕ → List ℕ → Counting → Output → Verdict
+unfoldable pub laid_verdict : ℕ → SummarizationStrategy → Documents → List ℕ → List ℕ → Counting → Output → Result (Unit {0}) Refusal
 laid_verdict dimension strategy d order blocks w room = first_of (laid_tests dimension strategy d order blocks w room)
 
 -- ---- counting
@@ -86,23 +83,23 @@ counted_front dimension tops w =
     counting c.keys c.places c.maxima (c.entry_counts ++ drop dimension w.entry_counts) c.minimums c.steps
 
 -- the work refused: nothing changes. Else what counting leaves, up to the first empty summary
-abbrev pub measured_by : Verdict → ℕ → List (List Term) → Counting → Counting
-measured_by verdict.Accepted dimension tops w = counted_front dimension tops w
-measured_by (verdict.Refused r) dimension tops w = w
+abbrev pub measured_by : Result (Unit {0}) Refusal → ℕ → List (List Term) → Counting → Counting
+measured_by (Ok _) dimension tops w = counted_front dimension tops w
+measured_by (Err r) dimension tops w = w
 
 abbrev pub measured_left : ℕ → SummarizationStrategy → Documents → List ℕ → List ℕ → Counting → Counting
 measured_left dimension strategy d order blocks w = measured_by (first_of (work_for dimension blocks w)) dimension (tops dimension strategy d order blocks) w
 
 -- the same of the store: the keys that the blocks before the first empty summary keep
-abbrev pub stored_by : Verdict → List (List Term) → List ℕ → List ℕ
-stored_by verdict.Accepted tops store = kept_in (full_first tops) store
-stored_by (verdict.Refused r) tops store = store
+abbrev pub stored_by : Result (Unit {0}) Refusal → List (List Term) → List ℕ → List ℕ
+stored_by (Ok _) tops store = kept_in (full_first tops) store
+stored_by (Err r) tops store = store
 
 abbrev pub measured_store : ℕ → SummarizationStrategy → Documents → List ℕ → List ℕ → Counting → List ℕ → List ℕ
 measured_store dimension strategy d order blocks w store = stored_by (first_of (work_for dimension blocks w)) (tops dimension strategy d order blocks) store
 
 -- what the first pass answers and leaves
-pub record Measures (dimension : ℕ) (strategy : SummarizationStrategy) (d : Documents) (order blocks : List ℕ) (w : Counting) (room : Output) (r : BuildAnswer) (after : Counting) : Type 0 where
+pub record Measures (dimension : ℕ) (strategy : SummarizationStrategy) (d : Documents) (order blocks : List ℕ) (w : Counting) (room : Output) (r : Result BuiltSizes Refusal) (after : Counting) : Type 0 where
   pub answer : r ≡ answer_by (laid_verdict dimension strategy d order blocks w room) (built_from dimension strategy d order blocks)
   pub left : after ≡ measured_left dimension strategy d order blocks w
 
@@ -112,12 +109,12 @@ judged_room p o n e b l =
     (leb p l.postings && leb o l.block_offsets)
     && ((leb n l.summary_components && ltb n l.component_offsets) && ((leb e l.summary_ids && leb e l.codes) && (leb b l.minimums && leb b l.steps)))
 
-abbrev pub sizes_or_refused : Bool → ℕ → ℕ → ℕ → ℕ → ℕ → BuildAnswer
-sizes_or_refused fits p o n e b = cond (not fits) (answer.Refused BufferTooShort) (answer.Built (record { postings = p; block_offsets = o; summary_components = n; entries = e; summaries = b }))
+abbrev pub sizes_or_refused : Bool → ℕ → ℕ → ℕ → ℕ → ℕ → Result BuiltSizes Refusal
+sizes_or_refused fits p o n e b = cond (not fits) (Err BufferTooShort) (Ok (record { postings = p; block_offsets = o; summary_components = n; entries = e; summaries = b }))
 
-abbrev pub room_by : ℕ → ℕ → ℕ → ℕ → ℕ → OutputLengths → BuildAnswer
+abbrev pub room_by : ℕ → ℕ → ℕ → ℕ → ℕ → OutputLengths → Result BuiltSizes Refusal
 room_by p o n e b l = sizes_or_refused (judged_room p o n e b l) p o n e b
 
 -- the same for the sizes that counts give
-abbrev pub room_answer : ℕ → ℕ → List ℕ → OutputLengths → BuildAnswer
+abbrev pub room_answer : ℕ → ℕ → List ℕ → OutputLengths → Result BuiltSizes Refusal
 room_answer p o counts l = room_by p o (length (present_from 0 counts)) (foldl on_to 0 counts) (o - 1) l

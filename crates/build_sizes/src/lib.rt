@@ -7,9 +7,9 @@ ghost use Rattle.build_count_pass.specs.Counting.{counting};
 ghost use Rattle.refusal.specs.First.{first_of};
 ghost use Rattle.build_sizes.specs.Sized.{work_tests, room_of, room_answer, Measures, measured_store};
 
-use build_meaning::{BuildAnswer, BuiltSizes};
+use build_meaning::BuiltSizes;
 use configuration::SummarizationStrategy;
-use refusal::{Refusal, Verdict};
+use refusal::Refusal;
 use sparse_layout::Sizes;
 
 // How long each output buffer is.
@@ -31,7 +31,7 @@ fn judge_room(
     offsets: usize,
     entry_counts: &[u64],
     lent: OutputLengths,
-) -> BuildAnswer
+) -> Result<BuiltSizes, Refusal>
     ensures { result ≡ room_answer postings offsets entry_counts.now lent }
 {
     let sizes = sparse_layout::sizes_of(entry_counts);
@@ -42,9 +42,9 @@ fn judge_room(
     let blocks = (summaries <= lent.minimums) & (summaries <= lent.steps);
     let list = (postings as u64 <= lent.postings) & (offsets as u64 <= lent.block_offsets);
     if !(list & (terms & (entries & blocks))) {
-        return BuildAnswer::Refused(Refusal::BufferTooShort);
+        return Err(Refusal::BufferTooShort);
     }
-    BuildAnswer::Built(BuiltSizes {
+    Ok(BuiltSizes {
         postings: postings as u64,
         block_offsets: offsets as u64,
         summary_components: sizes.components,
@@ -62,20 +62,20 @@ fn judge_work(
     places: usize,
     maxima: usize,
     entry_counts: usize,
-) -> Verdict
+) -> Result<(), Refusal>
     ensures { result ≡ first_of (work_tests dimension (offsets - 1) keys places maxima entry_counts) }
 {
     if blocking::limits::dimension_outside(dimension) {
-        return Verdict::Refused(Refusal::OutsideLimits);
+        return Err(Refusal::OutsideLimits);
     }
     if blocking::limits::too_many_blocks(offsets.saturating_sub(1) as u64) {
-        return Verdict::Refused(Refusal::OutsideLimits);
+        return Err(Refusal::OutsideLimits);
     }
     let needed = dimension as usize;
     if (keys < needed) | (places < needed) | (maxima < needed) | (entry_counts < needed) {
-        return Verdict::Refused(Refusal::BufferTooShort);
+        return Err(Refusal::BufferTooShort);
     }
-    Verdict::Accepted
+    Ok(())
 }
 
 // Counts the entries of a list's blocks in front of `entry_counts`, leaves each block's minimum and step, and answers with the sizes of the
@@ -97,7 +97,7 @@ pub fn measure(
     steps: &mut [f32],
     lent: OutputLengths,
     store: &mut [u64],
-) -> BuildAnswer
+) -> Result<BuiltSizes, Refusal>
     ensures left { Measures dimension strategy (documents offsets.now components.now values.now) order.now
         blocks.now (counting keys.old places.old maxima.old entry_counts.old minimums.old
         steps.old) (room_of lent) result (counting keys.new places.new maxima.new entry_counts.new minimums.new
@@ -114,8 +114,8 @@ pub fn measure(
         maxima.len(),
         entry_counts.len(),
     );
-    if let Verdict::Refused(reason) = verdict {
-        return BuildAnswer::Refused(reason);
+    if let Err(reason) = verdict {
+        return Err(reason);
     }
     let n = dimension as usize;
     let full = build_count_pass::count(
@@ -135,7 +135,7 @@ pub fn measure(
         store,
     );
     if !full {
-        return BuildAnswer::Refused(Refusal::EmptySummary);
+        return Err(Refusal::EmptySummary);
     }
     judge_room(order.len(), blocks.len(), &entry_counts[..n], lent)
 }

@@ -1,8 +1,9 @@
 -- What building a short list leaves: a build with scratch for 64 documents, blocks and components, and for 512 terms of centroids.
-use Rattle.std.specs.Prelude.{ℕ, List, replicate, Float}
+use Rattle.build_meaning.specs.declared.BuiltSizes.{BuiltSizes}
+use Rattle.refusal.specs.declared.Refusal.{Refusal}
+use Rattle.std.specs.Prelude.{ℕ, List, replicate, Float, Result}
 use Rattle.std.specs.Float.{binary32}
 use Rattle.std.specs.Float.Ieee.{of_bits}
-use Rattle.build_meaning.specs.declared.BuildAnswer.{BuildAnswer}
 use Rattle.build_meaning.specs.Built.{Input}
 use Rattle.build_meaning.specs.Building.{Outputs, Scratches, scratches, Left, lent, builds}
 
@@ -23,10 +24,10 @@ short_scratch = scratches places places places places places places places term_
 
 -- the answer and the output
 pub record Made : Type 0 where
-  pub answer : BuildAnswer
+  pub answer : Result BuiltSizes Refusal
   pub output : Outputs
 
-abbrev pub made : BuildAnswer → Outputs → Made
+abbrev pub made : Result BuiltSizes Refusal → Outputs → Made
 made a o = record { answer = a; output = o }
 
 -- of what a build leaves

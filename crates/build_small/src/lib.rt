@@ -7,7 +7,8 @@ ghost use Rattle.build_meaning.specs.Built.{input};
 ghost use Rattle.build_meaning.specs.Building.{outputs};
 ghost use Rattle.build_small.specs.Short.{made, made_short};
 
-use build_meaning::BuildAnswer;
+use refusal::Refusal;
+use build_meaning::Result<BuiltSizes, Refusal>;
 use configuration::{BlockingStrategy, SummarizationStrategy};
 
 // posting_list::build with 512 places for the terms of the centroids (slots and weights) and 64 in every other scratch buffer, so that a
@@ -29,7 +30,7 @@ pub fn build(
     codes: &mut [u8],
     minimums: &mut [f32],
     steps: &mut [f32],
-) -> BuildAnswer
+) -> Result<BuiltSizes, Refusal>
     ensures { made result (outputs postings.new block_offsets.new summary_components.new component_offsets.new summary_ids.new
         codes.new minimums.new steps.new)
         ≡ made_short (input dimension blocking summarization (documents offsets.now components.now values.now) ids.now centroids.now)

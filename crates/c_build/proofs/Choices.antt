@@ -1,4 +1,5 @@
 -- What the numbers choose, and the numbers of an answer.
+use Rattle.std.specs.Prelude.{Result, Ok, Err}
 use Prim.Native.Nat.{ℕ}
 use mathlib.Core.Path.{◌≡◌, sym, ap, ◌∙◌}
 use borrow.Author.Tests.{eq-eqb, ne_eqb}
@@ -10,8 +11,6 @@ use Rattle.configuration.specs.declared.ClusteringAlgorithm.{ClusteringAlgorithm
 use Rattle.configuration.specs.declared.ClusteringAlgorithm.TheVariants as algorithm
 use Rattle.configuration.specs.declared.SummarizationStrategy.TheVariants as summary
 use Rattle.build_meaning.specs.declared.BuiltSizes.{BuiltSizes}
-use Rattle.build_meaning.specs.declared.BuildAnswer.{BuildAnswer}
-use Rattle.build_meaning.specs.declared.BuildAnswer.TheVariants.{Refused, Built}
 use Rattle.build_meaning.specs.Building.{numbers, in_numbers}
 use Rattle.c_build.specs.Chosen.{algorithm_of, blocking_of, summarization_of}
 
@@ -41,8 +40,8 @@ unfolding summarization_of
 energy-chosen s size energy n = simp (ne_eqb s 0 n)
 
 -- ---- the numbers of a build's answer
-pub refused-numbers : (a : BuildAnswer) (r : Refusal) (n : ℕ) → a ≡ Refused r → n ≡ number_of r → numbers n 0 0 0 0 0 ≡ in_numbers a
+pub refused-numbers : (a : Result BuiltSizes Refusal) (r : Refusal) (n : ℕ) → a ≡ Err r → n ≡ number_of r → numbers n 0 0 0 0 0 ≡ in_numbers a
 refused-numbers a r n e h = ap (λ m. numbers m 0 0 0 0 0) h ∙ ap in_numbers (sym e)
 
-pub built-numbers : (a : BuildAnswer) (z : BuiltSizes) → a ≡ Built z → numbers 0 z.postings z.block_offsets z.summary_components z.entries z.summaries ≡ in_numbers a
+pub built-numbers : (a : Result BuiltSizes Refusal) (z : BuiltSizes) → a ≡ Ok z → numbers 0 z.postings z.block_offsets z.summary_components z.entries z.summaries ≡ in_numbers a
 built-numbers a z e = ap in_numbers (sym e)

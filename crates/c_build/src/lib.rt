@@ -5,7 +5,8 @@ ghost use Rattle.std.specs.Prelude.{◌≡◌};
 ghost use Rattle.build_meaning.specs.Building.{numbers, in_numbers};
 ghost use Rattle.c_build.specs.Chosen.{algorithm_of, blocking_of, summarization_of};
 
-use build_meaning::BuildAnswer;
+use refusal::Refusal;
+use build_meaning::Result<BuiltSizes, Refusal>;
 use configuration::{BlockingStrategy, ClusteringAlgorithm, SummarizationStrategy};
 
 // How the nearest centroid is found: 1 is by each dot product, 2 by a document's largest terms. Any other number does as 2, and is
@@ -55,7 +56,7 @@ pub fn summarization_of(
 
 // The number of a build's answer, and the sizes of the list that it built: each is 0 where it was refused.
 pub fn show_built(
-    answer: BuildAnswer,
+    answer: Result<BuiltSizes, Refusal>,
     postings: &mut u64,
     block_offsets: &mut u64,
     summary_components: &mut u64,
@@ -70,8 +71,8 @@ pub fn show_built(
     *entries = 0;
     *summaries = 0;
     match answer {
-        BuildAnswer::Refused(reason) => reason.number(),
-        BuildAnswer::Built(sizes) => {
+        Err(reason) => reason.number(),
+        Ok(sizes) => {
             *postings = sizes.postings;
             *block_offsets = sizes.block_offsets;
             *summary_components = sizes.summary_components;

@@ -1,60 +1,52 @@
-// Lent buffers set to zero, one function for each kind of number: what a refused call leaves, and what every call leaves in its scratch.
+// Lent buffers set to zero: what a refused call leaves, and what every call leaves in its scratch.
 #![tactic(auto)]
 
-ghost use Rattle.std.specs.Prelude.{◌≡◌};
-ghost use Rattle.clearing.specs.Zeros.{zeros, float_zeros};
+ghost use Rattle.std.specs.Prelude.{◌≡◌, length, replicate, false, pos};
+ghost use Rattle.std.specs.Float.{fin};
 
-// Sets each u64 to 0.
-pub fn clear_u64(numbers: &mut [u64])
-    ensures { numbers.new ≡ zeros numbers.old }
-{
-    let mut i = 0usize;
-    while i < numbers.len() {
-        numbers[i] = 0;
-        i += 1;
-    }
+// A kind of number that has a zero.
+pub trait Zero: Copy {
+    ghost ZERO: { Self };
+
+    const ZERO: Self;
 }
 
-// Sets each u32 to 0.
-pub fn clear_u32(components: &mut [u32])
-    ensures { components.new ≡ zeros components.old }
-{
-    let mut i = 0usize;
-    while i < components.len() {
-        components[i] = 0;
-        i += 1;
-    }
+impl Zero for u64 {
+    ghost ZERO = { 0 };
+
+    const ZERO: u64 = 0;
 }
 
-// Sets each u16 to 0.
-pub fn clear_u16(ids: &mut [u16])
-    ensures { ids.new ≡ zeros ids.old }
-{
-    let mut i = 0usize;
-    while i < ids.len() {
-        ids[i] = 0;
-        i += 1;
-    }
+impl Zero for u32 {
+    ghost ZERO = { 0 };
+
+    const ZERO: u32 = 0;
 }
 
-// Sets each u8 to 0.
-pub fn clear_u8(codes: &mut [u8])
-    ensures { codes.new ≡ zeros codes.old }
-{
-    let mut i = 0usize;
-    while i < codes.len() {
-        codes[i] = 0;
-        i += 1;
-    }
+impl Zero for u16 {
+    ghost ZERO = { 0 };
+
+    const ZERO: u16 = 0;
 }
 
-// Sets each value to +0.
-pub fn clear_f32(values: &mut [f32])
-    ensures { values.new ≡ float_zeros values.old }
+impl Zero for u8 {
+    ghost ZERO = { 0 };
+
+    const ZERO: u8 = 0;
+}
+
+// That of floats is +0.
+impl Zero for f32 {
+    ghost ZERO = { fin false 0 (pos 0) };
+
+    const ZERO: f32 = 0.0;
+}
+
+// Sets each number to zero.
+pub fn clear<T: Zero>(numbers: &mut [T])
+    ensures { numbers.new ≡ replicate (length numbers.old) T.ZERO }
 {
-    let mut i = 0usize;
-    while i < values.len() {
-        values[i] = 0.0;
-        i += 1;
+    for number in numbers {
+        *number = T::ZERO;
     }
 }

@@ -97,13 +97,13 @@ fn clear(
     ensures sums { sums.new ≡ replicate (length sums.old) (fin false 0 (pos 0)) }
     ensures keys { keys.new ≡ replicate (length keys.old) 0 }
 {
-    clearing::clear_u64(competing);
-    clearing::clear_u64(counts);
-    clearing::clear_u64(starts);
-    clearing::clear_u64(slots);
-    clearing::clear_f32(weights);
-    clearing::clear_f32(sums);
-    clearing::clear_u64(keys);
+    clearing::clear(competing);
+    clearing::clear(counts);
+    clearing::clear(starts);
+    clearing::clear(slots);
+    clearing::clear(weights);
+    clearing::clear(sums);
+    clearing::clear(keys);
 }
 
 // Takes the documents of dissolved groups again; where no group dissolves there are none, and no index is filled. The work space is all

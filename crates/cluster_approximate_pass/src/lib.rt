@@ -10,7 +10,6 @@ ghost use Rattle.cluster_passes.specs.Passes.{over};
 ghost use Rattle.cluster_slots.specs.Met.{none, Clear};
 ghost use Rattle.cluster_approximate_pass.specs.Taking.{nearly_choice, again_rank};
 
-use cells::shorter;
 use cluster_ranks::{is_small, rank};
 use number_types::{CentroidRank, DocumentId};
 
@@ -76,8 +75,8 @@ pub fn first_pass(
     ensures sums { sums.new ≡ replicate (length sums.old) (fin false 0 (pos 0)) }
     ensures keys { keys.new ≡ replicate (length keys.old) 0 }
 {
-    clearing::clear_f32(sums);
-    let n = shorter(ids.len(), taken.len());
+    clearing::clear(sums);
+    let n = ids.len().min(taken.len());
     for i in 0..n {
         let r = near_rank(
             offsets,
@@ -96,7 +95,7 @@ pub fn first_pass(
         );
         taken[i] = r.0;
     }
-    clearing::clear_u64(keys);
+    clearing::clear(keys);
 }
 
 // Takes the documents of dissolved groups again, by the ranks that stand in `taken` and the counts of each rank: those whose group has
@@ -125,8 +124,8 @@ pub fn second_pass(
     ensures sums { sums.new ≡ replicate (length sums.old) (fin false 0 (pos 0)) }
     ensures keys { keys.new ≡ replicate (length keys.old) 0 }
 {
-    clearing::clear_f32(sums);
-    let end = shorter(ids.len(), taken.len());
+    clearing::clear(sums);
+    let end = ids.len().min(taken.len());
     for i in 0..end {
         let own = CentroidRank(taken[i]);
         if is_small(counts, minimum, own) {
@@ -148,5 +147,5 @@ pub fn second_pass(
             taken[i] = r.0;
         }
     }
-    clearing::clear_u64(keys);
+    clearing::clear(keys);
 }

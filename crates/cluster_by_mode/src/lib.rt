@@ -7,7 +7,6 @@ ghost use Rattle.clearing.specs.Zeros.{zeros, float_zeros};
 ghost use Rattle.documents.specs.Documents.{documents};
 ghost use Rattle.cluster_by_mode.specs.Modes.{ranks_by, fitting};
 
-use cells::shorter;
 use configuration::ClusteringAlgorithm;
 
 // Takes each document by the rank of its centroid in a list of known ones.
@@ -48,8 +47,8 @@ fn take_by(
                 offsets, components, values, ids, minimum, centroids, known, counts, starts, slots,
                 weights, sums, taken,
             );
-            clearing::clear_u64(competing);
-            clearing::clear_u64(keys);
+            clearing::clear(competing);
+            clearing::clear(keys);
         }
         ClusteringAlgorithm::RandomKmeansInvertedIndexApprox { doc_cut } => {
             cluster_approximate::assign(
@@ -97,8 +96,8 @@ pub fn assign(
     ensures sums { sums.new ≡ float_zeros sums.old }
     ensures keys { keys.new ≡ zeros keys.old }
 {
-    let room = shorter(known.len(), competing.len());
-    let m = shorter(centroids.len(), room);
+    let room = known.len().min(competing.len());
+    let m = centroids.len().min(room);
     cluster_ranks::sort_into(&centroids[..m], known);
     take_by(
         algorithm,
@@ -118,5 +117,5 @@ pub fn assign(
         keys,
         taken,
     );
-    clearing::clear_u64(known);
+    clearing::clear(known);
 }

@@ -14,7 +14,6 @@ ghost use Rattle.cluster_nearest.specs.Scored.{scores_of};
 ghost use Rattle.cluster_nearest.specs.Keys.{KeysLeft};
 ghost use Rattle.cluster_nearest.specs.Nearest.{candidate, if_greater, if_no_less, first_above, last_no_less};
 
-use cells::shorter;
 use number_types::DocumentId;
 
 // A centroid, by its document, with a document's score.
@@ -116,7 +115,7 @@ pub fn last_greatest(otherwise: DocumentId, centroids: &[u64], sums: &[f32]) -> 
         centroid: DocumentId(centroids[0]),
         score: sums[0],
     };
-    let n = shorter(centroids.len(), sums.len());
+    let n = centroids.len().min(sums.len());
     let mut i = 1usize;
     // sixteen at a time by place, since those that are left over follow after the loop
     while 16 <= n - i {
@@ -146,7 +145,7 @@ pub fn nearest_to(
         (terms (documents offsets.now components.now values.now) id.0) }
     ensures answer { result.0 ≡ first_above centroids.now sums.new }
 {
-    clearing::clear_f32(sums);
+    clearing::clear(sums);
     let p = cluster_index::places_of(offsets, components, values, id);
     cluster_index::add_terms(
         starts,
@@ -165,7 +164,7 @@ fn write_keys(components: &[u32], values: &[f32], keys: &mut [u64])
 {
     for i in 0..components.len().min(values.len()) {
         let key = term_keys::term_key(components[i], values[i]);
-        cells::put_u64(keys, i, key);
+        cells::put(keys, i, key);
     }
 }
 
@@ -177,7 +176,7 @@ fn sort_keys(cut: usize, components: &[u32], values: &[f32], keys: &mut [u64]) -
 {
     write_keys(components, values, keys);
     let terms = documents::term_count(components, values);
-    let n = shorter(terms, keys.len());
+    let n = terms.min(keys.len());
     sort::sort_front(&mut keys[..n], cut);
     n
 }
@@ -205,5 +204,5 @@ pub fn largest_keys(
         &values[p.from..p.to],
         keys,
     );
-    shorter(cut as usize, n)
+    (cut as usize).min(n)
 }

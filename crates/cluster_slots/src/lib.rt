@@ -9,7 +9,6 @@ ghost use Rattle.documents.specs.TermKeys.{term_of};
 ghost use Rattle.cluster_index.specs.Index.{add_terms};
 ghost use Rattle.cluster_slots.specs.Met.{slots_of, met, if_better, better, best_met, from_zero, last_before, chosen, clear_at, clear_met, chosen_by, set_back, nearest_by_keys, scores_after};
 
-use cells::shorter;
 use number_types::{CentroidSlot, DocumentId};
 
 // A slot with its score.
@@ -193,7 +192,7 @@ fn nearest_within(
     // where there are as many entries as scores, one walk over the scores costs no more
     if meets_many(starts, slots, weights, keys, sums.len()) {
         let c = cluster_nearest::last_greatest(otherwise, competing, sums);
-        clearing::clear_f32(sums);
+        clearing::clear(sums);
         return c;
     }
     let c = choose(otherwise, competing, starts, slots, weights, keys, sums);
@@ -219,7 +218,7 @@ pub fn nearest_by_keys(
     ensures sums { sums.new ≡ scores_after competing.now (documents starts.now slots.now weights.now) sums.old
         (map term_of keys.now) }
 {
-    let n = shorter(competing.len(), sums.len());
+    let n = competing.len().min(sums.len());
     nearest_within(
         otherwise,
         competing,

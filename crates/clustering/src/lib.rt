@@ -8,7 +8,6 @@ ghost use Rattle.counting_sort.specs.Counting.{grouped};
 ghost use Rattle.scratch.specs.Scratches.{scratches};
 ghost use Rattle.clustering.specs.Clustered.{some_groups, groups_in, clustered_in};
 
-use cells::shorter;
 use configuration::ClusteringAlgorithm;
 
 // The groups of as many documents as there are, and how many offsets they have: one more than groups. Of no documents there is no
@@ -50,9 +49,9 @@ fn group_and_clear(
     ensures counts { counts.new ≡ zeros counts.old }
 {
     let count = group_some(n, sorted, taken, counts, order, blocks);
-    clearing::clear_u64(sorted);
-    clearing::clear_u64(taken);
-    clearing::clear_u64(counts);
+    clearing::clear(sorted);
+    clearing::clear(taken);
+    clearing::clear(counts);
     count
 }
 
@@ -93,8 +92,8 @@ pub fn cluster(
         (scratches order.old blocks.old sorted.old known.old taken.old counts.old
         starts.old slots.old weights.old sums.old keys.old) }
 {
-    let places = shorter(sorted.len(), taken.len());
-    let n = shorter(ids.len(), places);
+    let places = sorted.len().min(taken.len());
+    let n = ids.len().min(places);
     cluster_ranks::sort_into(&ids[..n], sorted);
     cluster_by_mode::assign(
         algorithm,

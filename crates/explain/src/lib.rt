@@ -10,7 +10,6 @@ ghost use Rattle.search_probe.specs.Probed.{terms, lends};
 ghost use Rattle.explain.specs.Turns.{turn_at, seen_by, seen, turn_seen};
 ghost use Rattle.explain.specs.Reasons.{holds, turn_of, reached_fate, searched, turn_fate, probed_block, fated, fated_in, fate_of};
 
-use cells::shorter;
 use number_types::BlockNumber;
 use packing::PackedPosting;
 use search_probe::Answer;
@@ -130,7 +129,7 @@ fn block_holds(block_offsets: &[u64], count: usize, position: u64, block: BlockN
     ensures { result ≡ holds block_offsets.now count position block.0 }
 {
     let first = search_held::start_at(block_offsets, block);
-    let end = shorter(search_held::end_at(block_offsets, block) as usize, count);
+    let end = (search_held::end_at(block_offsets, block) as usize).min(count);
     (first <= position) & ((position as usize) < end)
 }
 
@@ -223,9 +222,9 @@ fn probe_to(
         scores,
         visits,
     );
-    let posting = cells::at_u64(postings, position as usize, 0);
+    let posting = cells::at(postings, position as usize, 0);
     let bytes = components.len() + 1;
-    let n = shorter(visits.len(), bytes);
+    let n = visits.len().min(bytes);
     reached_fate(answer, PackedPosting(posting), &visits[..n])
 }
 
@@ -346,6 +345,6 @@ pub fn fate_of(
 pub fn is_kept(posting: PackedPosting, length: u64, packed: &[u64]) -> bool
     ensures { result ≡ among posting.0 (take length packed.now) }
 {
-    let most = shorter(length as usize, packed.len());
+    let most = (length as usize).min(packed.len());
     packed[..most].contains(&posting.0)
 }

@@ -1,9 +1,8 @@
 -- What is told of a posting, beside what became of it in the search's story. Document 01, "Search".
-use Rattle.std.specs.Prelude.{ℕ, ◌≡◌, false, List, ◌↔◌, get_or, Float}
+use Rattle.std.specs.Prelude.{ℕ, ◌≡◌, false, List, ◌↔◌, get_or, Float, Ok}
 use Rattle.std.specs.Float.{nan, binary32}
 use Rattle.std.specs.Float.Ieee.{mul}
 use Rattle.sequences.specs.Lists.{EachOf, among}
-use Rattle.refusal.specs.declared.Verdict.TheVariants.{Accepted}
 use Rattle.refusal.specs.First.{first_of}
 use Rattle.search_probe.specs.declared.Answer.{Answer}
 use Rattle.search_probe.specs.declared.Answer.TheVariants.{Found}
@@ -85,7 +84,7 @@ pub record TellsTrue (q : Search) : Type 0 where
 
 -- ---- a search that is accepted may stop: what is told of the postings that it came to is true, too
 abbrev pub Begun : Search → Type 0
-Begun q = first_of (tests q.k q.terms q.lent) ≡ Accepted
+Begun q = first_of (tests q.k q.terms q.lent) ≡ Ok tt
 
 abbrev pub ReachedAs : (q : Search) → PostingOf q → Outcome → Type 0
 ReachedAs q p o = Reaches (story_of q) p.blocks_before p.block p.places_before p.place o

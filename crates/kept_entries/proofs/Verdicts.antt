@@ -1,4 +1,6 @@
 -- The verdict on a push onto a slice of entries, by its cases, and what a push leaves: what kept_list shows of the two slices.
+use Rattle.std.specs.Prelude.{Result, Ok, Err}
+use Rattle.refusal.specs.declared.Refusal.{Refusal}
 use Prim.Native.Nat.{ℕ, suc, ◌<◌, ◌≤◌, min}
 use native.Mathlib.Omega.{arith}
 use native.Mathlib.Decide.{dec_le}
@@ -10,8 +12,6 @@ use lib.Ieee.{eq}
 use lib.Dec.{leb, ltb}
 use borrow.Author.Tests.{eq-eqb, ne_eqb, lt-ltb, le-ltb, lt-leb, le-leb}
 use Rattle.refusal.specs.declared.Refusal.TheVariants.{NothingToKeep, WrongKeptList, BufferTooShort}
-use Rattle.refusal.specs.declared.Verdict.{Verdict}
-use Rattle.refusal.specs.declared.Verdict.TheVariants.{Accepted, Refused}
 use Rattle.kept_list.specs.declared.Scored.{Scored}
 use Rattle.kept_list.specs.Lent.{packed_of, score_of, settled}
 use Rattle.kept_list.specs.Push.{is_number, well_kept, verdict_of, left, pushed}
@@ -22,7 +22,7 @@ use Rattle.kept_entries.specs.Answers.{verdict_by, is_refused, answer_of, verdic
 
 -- ---- by value
 module _ (k n room : ℕ) (sound : Bool) (e : Scored) where
-  pub keeps-nothing : k ≡ 0 → Refused NothingToKeep ≡ verdict_by k n room sound e
+  pub keeps-nothing : k ≡ 0 → Err NothingToKeep ≡ verdict_by k n room sound e
   unfolding verdict_by
   keeps-nothing z = rw (eq-eqb k 0 z)
 
@@ -30,16 +30,16 @@ module _ (k n room : ℕ) (sound : Bool) (e : Scored) where
     tested : (b : Bool) → (sound && eq e.score e.score) ≡ b → (sound && is_number e) ≡ b
     tested b h = ap (λ x. sound && x) (sym (eq_self e.score)) ∙ h
 
-    pub wrong-list : (sound && eq e.score e.score) ≡ false → Refused WrongKeptList ≡ verdict_by k n room sound e
+    pub wrong-list : (sound && eq e.score e.score) ≡ false → Err WrongKeptList ≡ verdict_by k n room sound e
     unfolding verdict_by
     wrong-list h = rw (ne_eqb k 0 some, tested false h)
 
     module _ (h : (sound && eq e.score e.score) ≡ true) (m : ℕ) (a : m ≡ min (suc n) k) where
-      pub too_short : room < m → Refused BufferTooShort ≡ verdict_by k n room sound e
+      pub too_short : room < m → Err BufferTooShort ≡ verdict_by k n room sound e
       unfolding verdict_by
       too_short g = rw (ne_eqb k 0 some, tested true h, lt-ltb room (min (suc n) k) (rw a at g))
 
-      pub admitted : m ≤ room → Accepted ≡ verdict_by k n room sound e
+      pub admitted : m ≤ room → Ok tt ≡ verdict_by k n room sound e
       unfolding verdict_by
       admitted g = rw (ne_eqb k 0 some, tested true h, le-ltb room (min (suc n) k) (rw a at g))
 
@@ -57,18 +57,18 @@ module _ (k n : ℕ) (e : Scored) (ys : List Scored) where
   verdict-is sound h = rw (h, room-is (min (suc n) k))
 
   -- ---- what a push leaves
-  module _ (v : Verdict) (a : v ≡ verdict_of k e (as_lent n ys)) where
+  module _ (v : Result (Unit {0}) Refusal) (a : v ≡ verdict_of k e (as_lent n ys)) where
     pub refused : is_refused v ≡ true → left (verdict_in (answer_of v n)) (as_lent (length_in n (answer_of v n)) ys) ≡ pushed k e (as_lent n ys)
     refused h = go v a h
       where
-        go : (v : Verdict) → v ≡ verdict_of k e (as_lent n ys) → is_refused v ≡ true → left (verdict_in (answer_of v n)) (as_lent (length_in n (answer_of v n)) ys) ≡ pushed k e (as_lent n ys)
-        go Accepted a h = absurd (true≢false (sym h))
-        go (Refused r) a h = refused-leaves k e (as_lent n ys) (Refused r) a r refl
+        go : (v : Result (Unit {0}) Refusal) → v ≡ verdict_of k e (as_lent n ys) → is_refused v ≡ true → left (verdict_in (answer_of v n)) (as_lent (length_in n (answer_of v n)) ys) ≡ pushed k e (as_lent n ys)
+        go (Ok _) a h = absurd (true≢false (sym h))
+        go (Err r) a h = refused-leaves k e (as_lent n ys) (Err r) a r refl
 
     pub accepted : is_refused v ≡ false → (m : ℕ) (zs : List Scored) → as_lent m zs ≡ settled k e (as_lent n ys)
         → left (verdict_in (answer_of v m)) (as_lent (length_in n (answer_of v m)) zs) ≡ pushed k e (as_lent n ys)
     accepted h m zs s = go v a h
       where
-        go : (v : Verdict) → v ≡ verdict_of k e (as_lent n ys) → is_refused v ≡ false → left (verdict_in (answer_of v m)) (as_lent (length_in n (answer_of v m)) zs) ≡ pushed k e (as_lent n ys)
-        go Accepted a h = accepted-leaves k e (as_lent n ys) Accepted a refl (as_lent m zs) s
-        go (Refused r) a h = absurd (true≢false h)
+        go : (v : Result (Unit {0}) Refusal) → v ≡ verdict_of k e (as_lent n ys) → is_refused v ≡ false → left (verdict_in (answer_of v m)) (as_lent (length_in n (answer_of v m)) zs) ≡ pushed k e (as_lent n ys)
+        go (Ok _) a h = accepted-leaves k e (as_lent n ys) (Ok tt) a refl (as_lent m zs) s
+        go (Err r) a h = absurd (true≢false h)

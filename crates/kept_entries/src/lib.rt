@@ -8,7 +8,7 @@ ghost use Rattle.kept_entries.specs.Entries.{no_entry, as_lent, goes_in};
 ghost use Rattle.kept_entries.specs.Answers.{verdict_by, is_refused, answer_of, verdict_in, length_in};
 
 use kept_list::Scored;
-use refusal::{Refusal, Verdict};
+use refusal::Refusal;
 
 // What is read where there is no entry: a NaN, which no kept list has.
 fn no_entry() -> Scored
@@ -49,7 +49,7 @@ fn worst_place(k: u64, room: usize) -> usize
 {
     let last = (k as usize).saturating_sub(1);
     let end = room.saturating_sub(1);
-    cells::shorter(last, end)
+    last.min(end)
 }
 
 // Whether an entry comes into the list: below k where there is a place for it, at k where it is better than the worst.
@@ -67,7 +67,7 @@ fn place_of(k: u64, length: u64) -> usize
 {
     let n = length as usize;
     let last = (k as usize).saturating_sub(1);
-    cells::shorter(n, last)
+    n.min(last)
 }
 
 // A push without its refusals onto the first `length` entries; it answers how many there are then. Below k the entry is added; at k
@@ -108,55 +108,48 @@ pub fn is_well_kept(k: u64, length: u64, entries: &[Scored]) -> bool
     ok
 }
 
-// What a push answers: how many entries are kept after it, or why it is refused.
-#[derive(Drop)]
-pub enum Pushed {
-    Kept(u64),
-    Refused(Refusal),
-}
-
 // The verdict on a push onto so many entries in a slice with so much room, of which it is known whether they are well kept.
-fn admit(k: u64, length: u64, room: usize, sound: bool, e: Scored) -> Verdict
+fn admit(k: u64, length: u64, room: usize, sound: bool, e: Scored) -> Result<(), Refusal>
     ensures { result ≡ verdict_by k length room sound e }
 {
     if k == 0 {
-        return Verdict::Refused(Refusal::NothingToKeep);
+        return Err(Refusal::NothingToKeep);
     }
     let x = e.score;
     if !(sound & (x == x)) {
-        return Verdict::Refused(Refusal::WrongKeptList);
+        return Err(Refusal::WrongKeptList);
     }
     let need = kept_push::after_push(k, length) as usize;
     if room < need {
-        return Verdict::Refused(Refusal::BufferTooShort);
+        return Err(Refusal::BufferTooShort);
     }
-    Verdict::Accepted
+    Ok(())
 }
 
 // Whether a verdict is a refusal.
-fn is_refused(verdict: Verdict) -> bool
+fn is_refused(verdict: Result<(), Refusal>) -> bool
     ensures { result ≡ is_refused verdict }
 {
     match verdict {
-        Verdict::Accepted => false,
-        Verdict::Refused(_) => true,
+        Ok(()) => false,
+        Err(_) => true,
     }
 }
 
 // The answer that goes with a verdict, where an accepted push leaves so many entries.
-fn answer(verdict: Verdict, length: u64) -> Pushed
+fn answer(verdict: Result<(), Refusal>, length: u64) -> Result<u64, Refusal>
     ensures { result ≡ answer_of verdict length }
 {
     match verdict {
-        Verdict::Accepted => Pushed::Kept(length),
-        Verdict::Refused(reason) => Pushed::Refused(reason),
+        Ok(()) => Ok(length),
+        Err(reason) => Err(reason),
     }
 }
 
 // A push onto the first `length` entries. Refused with 11 where k is 0; with 12 where the kept entries number more than k or than
 // the slice holds, are out of order, or they or the pushed score hold a NaN; with 4 where the slice has no place for the result.
 // A refused push changes nothing.
-pub fn push(k: u64, length: u64, entries: &mut [Scored], e: Scored) -> Pushed
+pub fn push(k: u64, length: u64, entries: &mut [Scored], e: Scored) -> Result<u64, Refusal>
     ensures { left (verdict_in result) (as_lent (length_in length result) entries.new) ≡ pushed k e (as_lent length entries.old) }
 {
     let room = entries.len();
@@ -172,7 +165,7 @@ pub fn push(k: u64, length: u64, entries: &mut [Scored], e: Scored) -> Pushed
 // What a push onto an array of entries leaves: its answer, and the entries.
 #[derive(Drop)]
 pub struct Few {
-    pub answer: Pushed,
+    pub answer: Result<u64, Refusal>,
     pub entries: [Scored; 16],
 }
 

@@ -1,5 +1,6 @@
 -- What the kept list promises, over the definitions alone; a push answers in document 01's numbers.
-use Rattle.std.specs.Prelude.{ℕ, suc, ◌≤◌, ◌<◌, min, ◌≡◌, Bool, not, ◌&&◌, ◌||◌, cond, length, take, drop, leb, ltb, eqb}
+use Rattle.refusal.specs.declared.Refusal.{Refusal}
+use Rattle.std.specs.Prelude.{ℕ, suc, ◌≤◌, ◌<◌, min, ◌≡◌, Bool, not, ◌&&◌, ◌||◌, cond, length, take, drop, leb, ltb, eqb, Result, Ok, Err}
 use Rattle.std.proofs.Common.{arith, sym, ap, ◌∙◌, length-append, drop_at, leb-true, eq-eqb, ne_eqb}
 use Rattle.std.proofs.Math.Path.{refl}
 use Rattle.std.proofs.Math.Bool.{true, false}
@@ -7,8 +8,6 @@ use mathlib.Core.List.{List, [], ◌∷◌, ◌++◌, map, Memᴰ}
 use Rattle.std.proofs.lemmas.List.{length-map}
 use Rattle.std.proofs.lemmas.Bool.{not-false}
 use Rattle.refusal.specs.declared.Refusal.TheVariants.{NothingToKeep, WrongKeptList, BufferTooShort}
-use Rattle.refusal.specs.declared.Verdict.{Verdict}
-use Rattle.refusal.specs.declared.Verdict.TheVariants.{Accepted, Refused}
 use Rattle.refusal.specs.Refusals.{verdict_number}
 use Rattle.refusal.specs.First.{◌gives◌, first_of}
 use Rattle.refusal.specs.Laws.First.{faultless}
@@ -69,11 +68,11 @@ module _ (k : ℕ) (e : Scored) (l : Lent) where
       accepts h = rw (ne_eqb k 0 some, kept, h)
 
   -- none of the refusals has the number 0
-  pub zero-accepts : Answers k e l 0 → (pushed k e l).verdict ≡ Accepted
+  pub zero-accepts : Answers k e l 0 → (pushed k e l).verdict ≡ Ok tt
   unfolding pushed verdict_of
   zero-accepts h = go (eqb k 0) (not (well_kept k l && is_number e)) (not (places (after k l) l)) h
     where
-      go : (a b c : Bool) → let v = first_of ((a gives NothingToKeep) ∷ (b gives WrongKeptList) ∷ (c gives BufferTooShort) ∷ []) in verdict_number v ≡ 0 → v ≡ Accepted
+      go : (a b c : Bool) → let v = first_of ((a gives NothingToKeep) ∷ (b gives WrongKeptList) ∷ (c gives BufferTooShort) ∷ []) in verdict_number v ≡ 0 → v ≡ Ok tt
       go true b c h = let z : ⊥ = omega (arith, h) in absurd z
       go false true c h = let z : ⊥ = omega (arith, h) in absurd z
       go false false true h = let z : ⊥ = omega (arith, h) in absurd z
@@ -180,13 +179,13 @@ pub refused-push : (k : ℕ) (e : Scored) (l : Lent) (n : ℕ) → Answers k e l
 unfolding pushed
 refused-push k e l n a h = go (verdict_of k e l) (rw a h)
   where
-    go : (v : Verdict) → 0 < verdict_number v → if_accepted v (settled k e l) l ≡ l
-    go Accepted z = let w : ⊥ = omega (arith, z) in absurd w
-    go (Refused r) z = refl
+    go : (v : Result (Unit {0}) Refusal) → 0 < verdict_number v → if_accepted v (settled k e l) l ≡ l
+    go (Ok _) z = let w : ⊥ = omega (arith, z) in absurd w
+    go (Err r) z = refl
 
 -- ---- 5: what the contracts allow is one result
 pub one-settled : (k : ℕ) (e : Scored) (l : Lent) (a b : Lent) → a ≡ settled k e l → b ≡ settled k e l → a ≡ b
 one-settled k e l a b p q = p ∙ sym q
 
-pub one-pushed : (k : ℕ) (e : Scored) (l : Lent) (r s : Verdict) (a b : Lent) → left r a ≡ pushed k e l → left s b ≡ pushed k e l → (r ≡ s) × (a ≡ b)
+pub one-pushed : (k : ℕ) (e : Scored) (l : Lent) (r s : Result (Unit {0}) Refusal) (a b : Lent) → left r a ≡ pushed k e l → left s b ≡ pushed k e l → (r ≡ s) × (a ≡ b)
 one-pushed k e l r s a b p q = (ap (λ x. x.verdict) (p ∙ sym q), ap (λ x. x.list) (p ∙ sym q))

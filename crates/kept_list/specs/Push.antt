@@ -1,9 +1,8 @@
 -- The refusals of a push, and what it leaves: document 01, "Pushing alone: 11, 12, 4".
-use Rattle.std.specs.Prelude.{ℕ, Bool, not, ◌&&◌, List, [], ◌∷◌, leb, eqb}
+use Rattle.refusal.specs.declared.Refusal.{Refusal}
+use Rattle.std.specs.Prelude.{ℕ, Bool, not, ◌&&◌, List, [], ◌∷◌, leb, eqb, Result, Ok, Err}
 use Rattle.std.specs.Float.Ieee.{is_nan}
 use Rattle.refusal.specs.declared.Refusal.TheVariants.{NothingToKeep, WrongKeptList, BufferTooShort}
-use Rattle.refusal.specs.declared.Verdict.{Verdict}
-use Rattle.refusal.specs.declared.Verdict.TheVariants.{Accepted, Refused}
 use Rattle.refusal.specs.First.{Test, ◌gives◌, first_of}
 use Rattle.sequences.specs.Lists.{every}
 use Rattle.kept_list.specs.declared.Scored.{Scored}
@@ -29,21 +28,21 @@ tests k e l =
     ∷ (not (places (after k l) l) gives BufferTooShort)
     ∷ []
 
-unfoldable pub verdict_of : ℕ → Scored → Lent → Verdict
+unfoldable pub verdict_of : ℕ → Scored → Lent → Result (Unit {0}) Refusal
 verdict_of k e l = first_of (tests k e l)
 
 -- what a push gives back, and the list at its end
 pub record Left : Type 0 where
-  pub verdict : Verdict
+  pub verdict : Result (Unit {0}) Refusal
   pub list : Lent
 
-abbrev pub left : Verdict → Lent → Left
+abbrev pub left : Result (Unit {0}) Refusal → Lent → Left
 left v l = record { verdict = v; list = l }
 
 -- what is done where the verdict lets it be done
-abbrev pub if_accepted : Verdict → Lent → Lent → Lent
-if_accepted Accepted done l = done
-if_accepted (Refused r) done l = l
+abbrev pub if_accepted : Result (Unit {0}) Refusal → Lent → Lent → Lent
+if_accepted (Ok _) done l = done
+if_accepted (Err r) done l = l
 
 unfoldable pub pushed : ℕ → Scored → Lent → Left
 pushed k e l = left (verdict_of k e l) (if_accepted (verdict_of k e l) (settled k e l) l)

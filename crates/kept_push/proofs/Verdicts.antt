@@ -1,4 +1,5 @@
 -- The tests of a push, by their cases.
+use Rattle.std.specs.Prelude.{Result, Ok, Err}
 use Prim.Native.Nat.{ℕ, suc, ◌≤◌, min}
 use mathlib.Core.Path.{◌≡◌, sym, ap, ◌∙◌}
 use mathlib.Core.Bool.{Bool, true, false, ◌&&◌}
@@ -10,8 +11,6 @@ use borrow.Author.Tests.{leb-true, eq-eqb, ne_eqb}
 use Rattle.sequences.specs.Laws.Lists.{both}
 use Rattle.refusal.specs.declared.Refusal.{Refusal}
 use Rattle.refusal.specs.declared.Refusal.TheVariants.{NothingToKeep, WrongKeptList, BufferTooShort}
-use Rattle.refusal.specs.declared.Verdict.{Verdict}
-use Rattle.refusal.specs.declared.Verdict.TheVariants.{Accepted, Refused}
 use Rattle.kept_list.specs.declared.Scored.{Scored}
 use Rattle.kept_list.specs.Lent.{Lent, lent, entries, settled}
 use Rattle.kept_list.specs.Push.{is_number, sound, well_kept, verdict_of, left, if_accepted, pushed}
@@ -41,7 +40,7 @@ module _ (k n : ℕ) (ps : List ℕ) (xs : List Float) where
 
 -- ---- the verdict
 module _ (k : ℕ) (e : Scored) (l : Lent) where
-  pub keeps-nothing : k ≡ 0 → Refused NothingToKeep ≡ verdict_of k e l
+  pub keeps-nothing : k ≡ 0 → Err NothingToKeep ≡ verdict_of k e l
   unfolding verdict_of
   keeps-nothing z = rw (eq-eqb k 0 z)
 
@@ -49,25 +48,25 @@ module _ (k : ℕ) (e : Scored) (l : Lent) where
     tested : (b : Bool) → (w && eq e.score e.score) ≡ b → (well_kept k l && is_number e) ≡ b
     tested b h = ap (λ x. x && is_number e) (sym v) ∙ ap (λ x. w && x) (sym (eq_self e.score)) ∙ h
 
-    pub wrong-list : (w && eq e.score e.score) ≡ false → Refused WrongKeptList ≡ verdict_of k e l
+    pub wrong-list : (w && eq e.score e.score) ≡ false → Err WrongKeptList ≡ verdict_of k e l
     unfolding verdict_of
     wrong-list h = rw (ne_eqb k 0 some, tested false h)
 
     module _ (h : (w && eq e.score e.score) ≡ true) (m : ℕ) (a : m ≡ min (suc l.size) k) where
-      pub too_short : (leb m (length l.packed) && leb m (length l.scores)) ≡ false → Refused BufferTooShort ≡ verdict_of k e l
+      pub too_short : (leb m (length l.packed) && leb m (length l.scores)) ≡ false → Err BufferTooShort ≡ verdict_of k e l
       unfolding verdict_of
       too_short g = rw (ne_eqb k 0 some, tested true h, rw a at g)
 
-      pub admitted : (leb m (length l.packed) && leb m (length l.scores)) ≡ true → Accepted ≡ verdict_of k e l
+      pub admitted : (leb m (length l.packed) && leb m (length l.scores)) ≡ true → Ok tt ≡ verdict_of k e l
       unfolding verdict_of
       admitted g = rw (ne_eqb k 0 some, tested true h, rw a at g)
 
   -- ---- what a push leaves
-  module _ (v : Verdict) (a : v ≡ verdict_of k e l) where
-    pub refused-leaves : (r : Refusal) → v ≡ Refused r → left v l ≡ pushed k e l
+  module _ (v : Result (Unit {0}) Refusal) (a : v ≡ verdict_of k e l) where
+    pub refused-leaves : (r : Refusal) → v ≡ Err r → left v l ≡ pushed k e l
     unfolding pushed
     refused-leaves r q = ap (λ w. left w l) a ∙ ap (λ w. left (verdict_of k e l) (if_accepted w (settled k e l) l)) (sym q ∙ a)
 
-    pub accepted-leaves : v ≡ Accepted → (m : Lent) → m ≡ settled k e l → left v m ≡ pushed k e l
+    pub accepted-leaves : v ≡ Ok tt → (m : Lent) → m ≡ settled k e l → left v m ≡ pushed k e l
     unfolding pushed
     accepted-leaves q m s = ap (left v) s ∙ ap (λ w. left w (settled k e l)) a ∙ ap (λ w. left (verdict_of k e l) (if_accepted w (settled k e l) l)) (sym q ∙ a)

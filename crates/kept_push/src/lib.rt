@@ -7,7 +7,7 @@ ghost use Rattle.kept_list.specs.Push.{sound, well_kept, verdict_of, left, pushe
 ghost use Rattle.kept_push.specs.Standing.{each_from, stands, Fallen};
 
 use kept_list::Scored;
-use refusal::{Refusal, Verdict};
+use refusal::Refusal;
 
 // The entry at a place of the two slices.
 fn entry(at: usize, packed: &[u64], scores: &[f32]) -> Scored
@@ -96,34 +96,31 @@ pub fn after_push(k: u64, length: u64) -> u64
 }
 
 // The verdict on a push.
-fn admit(k: u64, length: u64, packed: &[u64], scores: &[f32], e: Scored) -> Verdict
+fn admit(k: u64, length: u64, packed: &[u64], scores: &[f32], e: Scored) -> Result<(), Refusal>
     ensures { result ≡ verdict_of k e (lent length packed.now scores.now) }
 {
     if k == 0 {
-        return Verdict::Refused(Refusal::NothingToKeep);
+        return Err(Refusal::NothingToKeep);
     }
     let x = e.score;
     if !(is_well_kept(k, length, packed, scores) & (x == x)) {
-        return Verdict::Refused(Refusal::WrongKeptList);
+        return Err(Refusal::WrongKeptList);
     }
     let need = after_push(k, length) as usize;
     if !((need <= packed.len()) & (need <= scores.len())) {
-        return Verdict::Refused(Refusal::BufferTooShort);
+        return Err(Refusal::BufferTooShort);
     }
-    Verdict::Accepted
+    Ok(())
 }
 
 // A push onto the kept list. Refused with 11 where k is 0; with 12 where the kept entries number more than k or than the
 // buffers hold, are out of order, or they or the pushed score hold a NaN; with 4 where a buffer has no place for the result.
 // A refused push changes nothing.
-pub fn push(k: u64, length: &mut u64, packed: &mut [u64], scores: &mut [f32], e: Scored) -> Verdict
+pub fn push(k: u64, length: &mut u64, packed: &mut [u64], scores: &mut [f32], e: Scored) -> Result<(), Refusal>
     ensures { left result (lent length.new packed.new scores.new)
         ≡ pushed k e (lent length.old packed.old scores.old) }
 {
-    let verdict = admit(k, *length, packed, scores, e);
-    if let Verdict::Refused(_) = verdict {
-        return verdict;
-    }
+    admit(k, *length, packed, scores, e)?;
     kept_list::settle(k, length, packed, scores, e);
-    verdict
+    Ok(())
 }

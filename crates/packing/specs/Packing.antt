@@ -4,8 +4,6 @@ use Rattle.std.specs.Prelude.{ℕ, ◌+◌, ◌-◌, ◌*◌, ◌/◌, ◌%◌, 
 use Rattle.std.proofs.Common.{inl, inr}
 use Rattle.refusal.specs.declared.Refusal.{Refusal}
 use Rattle.refusal.specs.declared.Refusal.TheVariants.{StartTooLarge, RangeTooLong}
-use Rattle.refusal.specs.declared.Verdict.{Verdict}
-use Rattle.refusal.specs.declared.Verdict.TheVariants as verdict
 use Rattle.refusal.specs.Refusals.{number_of}
 use Rattle.refusal.specs.First.{Test, ◌gives◌, first_of}
 use Rattle.packing.specs.declared.UnpackedRange.{UnpackedRange}
@@ -41,9 +39,9 @@ range_length start end = end - start
 abbrev pub packing_tests : ℕ → ℕ → List Test
 packing_tests start length = (leb start_limit start gives StartTooLarge) ∷ (ltb length_limit length gives RangeTooLong) ∷ []
 
-abbrev pub answered : Verdict → ℕ → Result PackedPosting Refusal
-answered verdict.Accepted n = Ok (record { 0 = n })
-answered (verdict.Refused r) n = Err r
+abbrev pub answered : Result (Unit {0}) Refusal → ℕ → Result PackedPosting Refusal
+answered (Ok _) n = Ok (record { 0 = n })
+answered (Err r) n = Err r
 
 -- what packing the range from start to end comes to
 unfoldable pub packed : ℕ → ℕ → Result PackedPosting Refusal

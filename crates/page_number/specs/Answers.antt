@@ -5,8 +5,6 @@ use Rattle.sequences.specs.Lists.{first_or}
 use Rattle.number_types.specs.declared.DocumentId.{DocumentId}
 use Rattle.refusal.specs.declared.Refusal.{Refusal}
 use Rattle.refusal.specs.declared.Refusal.TheVariants.{WrongDocuments, NoSuchStart}
-use Rattle.refusal.specs.declared.Verdict.{Verdict}
-use Rattle.refusal.specs.declared.Verdict.TheVariants as verdict
 use Rattle.refusal.specs.Refusals.{number_of}
 use Rattle.refusal.specs.First.{Test, ◌gives◌, first_of}
 use Rattle.documents.specs.Documents.{starting_at}
@@ -16,9 +14,9 @@ use Rattle.documents.specs.Checks.{offsets_hold_free}
 abbrev pub page_tests : List ℕ → ℕ → List Test
 page_tests offsets s = (not (offsets_hold_free offsets) gives WrongDocuments) ∷ (eqb (length (starting_at s offsets)) 0 gives NoSuchStart) ∷ []
 
-abbrev pub page_answer : Verdict → ℕ → Result DocumentId Refusal
-page_answer verdict.Accepted i = Ok (record { 0 = i })
-page_answer (verdict.Refused r) i = Err r
+abbrev pub page_answer : Result (Unit {0}) Refusal → ℕ → Result DocumentId Refusal
+page_answer (Ok _) i = Ok (record { 0 = i })
+page_answer (Err r) i = Err r
 
 -- the smallest document whose start is asked for
 unfoldable pub page_number : List ℕ → ℕ → Result DocumentId Refusal

@@ -6,7 +6,8 @@ ghost use Rattle.documents.specs.Documents.{documents};
 ghost use Rattle.build_meaning.specs.Built.{input};
 ghost use Rattle.build_meaning.specs.Building.{outputs, scratches, lent, leaves, builds};
 
-use build_meaning::BuildAnswer;
+use refusal::Refusal;
+use build_meaning::Result<BuiltSizes, Refusal>;
 use configuration::{BlockingStrategy, SummarizationStrategy};
 
 // Builds a posting list from the listed documents. The result stands in front of the eight output buffers, past which nothing changes;
@@ -41,7 +42,7 @@ pub fn build(
     weights: &mut [f32],
     sums: &mut [f32],
     keys: &mut [u64],
-) -> BuildAnswer
+) -> Result<BuiltSizes, Refusal>
     ensures { leaves result (lent (outputs postings.new block_offsets.new summary_components.new component_offsets.new summary_ids.new
         codes.new minimums.new steps.new) (scratches order.new blocks.new sorted.new known.new taken.new
         counts.new starts.new slots.new weights.new sums.new keys.new))

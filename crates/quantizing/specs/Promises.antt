@@ -1,6 +1,6 @@
 -- What quantizing promises, with no word on code: which answer is given when, in document 01's numbers, and what holds of every accepted
 -- list.
-use Rattle.std.specs.Prelude.{◌≡◌, refl, true, false, ◌⊎◌, List, ◌++◌, map, ℕ, ◌+◌, ◌-◌, ◌*◌, ◌^◌, ◌≤◌, ◌<◌, length, get_or, drop, pos, T, Float, Result}
+use Rattle.std.specs.Prelude.{◌≡◌, refl, true, false, ◌⊎◌, List, ◌++◌, map, ℕ, ◌+◌, ◌-◌, ◌*◌, ◌^◌, ◌≤◌, ◌<◌, length, get_or, drop, pos, T, Float, Result, Ok, Err}
 use Rattle.std.proofs.Common.{sym, ◌∙◌, subst, inl, inr, arith, get_or-append-add, get_or-drop, eq-eqb, ne_eqb, lt-ltb, le-ltb}
 use Rattle.std.proofs.Math.Path.{ap}
 use Rattle.std.proofs.lemmas.List.{length-map}
@@ -11,8 +11,6 @@ use Rattle.std.specs.Float.Ieee.Fits.{and_l}
 use Rattle.std.specs.Float.Ieee.Scale.{finite}
 use Rattle.refusal.specs.declared.Refusal.{Refusal}
 use Rattle.refusal.specs.declared.Refusal.TheVariants.{EmptySummary, WrongTerms, BufferTooShort}
-use Rattle.refusal.specs.declared.Verdict.{Verdict}
-use Rattle.refusal.specs.declared.Verdict.TheVariants.{Accepted, Refused}
 use Rattle.refusal.specs.First.{first_of}
 use Rattle.sequences.specs.Lists.{every}
 use Rattle.float32.specs.Bound.{in_bound, Bounded}
@@ -41,23 +39,23 @@ pub record Gives (values : List Float) (lent : List ℕ) (answer : ℕ ⊎ (Floa
   pub leaves : (quantized values lent).codes ≡ after
 
 module _ (values : List Float) (lent : List ℕ) where
-  by-verdict : (v : Verdict) → first_of (tests values lent) ≡ v → Gives values lent (in_numbers (by v values lent).answer) (by v values lent).codes
+  by-verdict : (v : Result (Unit {0}) Refusal) → first_of (tests values lent) ≡ v → Gives values lent (in_numbers (by v values lent).answer) (by v values lent).codes
   unfolding quantized
   by-verdict v e = record { answers = ap (λ w. in_numbers (by w values lent).answer) e; leaves = ap (λ w. (by w values lent).codes) e }
 
   pub refuses-none : length values ≡ 0 → Gives values lent (inl 7) lent
-  refuses-none h = by-verdict (Refused EmptySummary) (rw (eq-eqb (length values) 0 h))
+  refuses-none h = by-verdict (Err EmptySummary) (rw (eq-eqb (length values) 0 h))
 
   module _ (some : length values ≡ 0 → ⊥) where
     pub refuses-values : every in_bound values ≡ false → Gives values lent (inl 14) lent
-    refuses-values h = by-verdict (Refused WrongTerms) (rw (ne_eqb (length values) 0 some, h))
+    refuses-values h = by-verdict (Err WrongTerms) (rw (ne_eqb (length values) 0 some, h))
 
     module _ (bounded : every in_bound values ≡ true) where
       pub refuses-buffer : length lent < length values → Gives values lent (inl 4) lent
-      refuses-buffer h = by-verdict (Refused BufferTooShort) (rw (ne_eqb (length values) 0 some, bounded, lt-ltb (length lent) (length values) h))
+      refuses-buffer h = by-verdict (Err BufferTooShort) (rw (ne_eqb (length values) 0 some, bounded, lt-ltb (length lent) (length values) h))
 
       pub quantizes : length values ≤ length lent → Gives values lent (inr (least values, step_for values)) (codes_for values ++ drop (length values) lent)
-      quantizes h = by-verdict Accepted (rw (ne_eqb (length values) 0 some, bounded, le-ltb (length lent) (length values) h))
+      quantizes h = by-verdict (Ok tt) (rw (ne_eqb (length values) 0 some, bounded, le-ltb (length lent) (length values) h))
 
 -- ---- 1: what quantizing leaves, place by place
 pub record EachCode (values : List Float) (lent codes : List ℕ) (low step : Float) : Type 0 where

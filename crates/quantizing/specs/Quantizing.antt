@@ -5,8 +5,6 @@ use Rattle.std.specs.Float.{nan, fin, binary32}
 use Rattle.std.specs.Float.Ieee.{add, sub, mul, div, of_int, le}
 use Rattle.refusal.specs.declared.Refusal.{Refusal}
 use Rattle.refusal.specs.declared.Refusal.TheVariants.{EmptySummary, WrongTerms, BufferTooShort}
-use Rattle.refusal.specs.declared.Verdict.{Verdict}
-use Rattle.refusal.specs.declared.Verdict.TheVariants.{Accepted, Refused}
 use Rattle.refusal.specs.Refusals.{number_of}
 use Rattle.refusal.specs.First.{Test, ◌gives◌, first_of}
 use Rattle.sequences.specs.Lists.{those, every, first_or}
@@ -73,9 +71,9 @@ in_numbers (Err reason) = inl (number_of reason)
 in_numbers (Ok s) = inr (s.least, s.step)
 
 -- a refusal changes nothing; else the codes stand first, and past them nothing changes
-abbrev pub by : Verdict → List Float → List ℕ → Left
-by (Refused reason) values codes = left (Err reason) codes
-by Accepted values codes = left (Ok (scale (least values) (step_for values))) (codes_for values ++ drop (length values) codes)
+abbrev pub by : Result (Unit {0}) Refusal → List Float → List ℕ → Left
+by (Err reason) values codes = left (Err reason) codes
+by (Ok _) values codes = left (Ok (scale (least values) (step_for values))) (codes_for values ++ drop (length values) codes)
 
 unfoldable pub quantized : List Float → List ℕ → Left
 quantized values codes = by (first_of (tests values codes)) values codes

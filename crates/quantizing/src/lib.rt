@@ -4,7 +4,6 @@
 ghost use Rattle.std.specs.Prelude.{◌≡◌, ◌++◌, map, ◌≤◌, length, drop};
 ghost use Rattle.quantizing.specs.Quantizing.{extent_of, step_of, code_of, read_back, left, quantized, step_allowed};
 
-use cells::{greater_u32, smaller_u32};
 use refusal::Refusal;
 
 // What the codes of quantized values count by: the least value, and the step from one code to the next.
@@ -30,8 +29,8 @@ pub fn extent_of(values: &[f32]) -> Extent
     let mut high = 0u32;
     for value in values {
         let k = float32::key(*value);
-        low = smaller_u32(low, k);
-        high = greater_u32(high, k);
+        low = low.min(k);
+        high = high.max(k);
     }
     Extent {
         least: float32::value_of_key(low),

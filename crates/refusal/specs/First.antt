@@ -1,8 +1,6 @@
 -- The order of refusals: a call's tests stand in a list, and the first that finds a fault gives the refusal.
-use Rattle.std.specs.Prelude.{◌≡◌, Bool, true, false, cond, List, [], ◌∷◌, ◌++◌}
+use Rattle.std.specs.Prelude.{◌≡◌, Bool, true, false, cond, List, [], ◌∷◌, ◌++◌, Result, Ok, Err}
 use Rattle.refusal.specs.declared.Refusal.{Refusal}
-use Rattle.refusal.specs.declared.Verdict.{Verdict}
-use Rattle.refusal.specs.declared.Verdict.TheVariants.{Accepted, Refused}
 
 -- whether a fault was found, and the refusal for it
 pub record Test : Type 0 where
@@ -14,9 +12,9 @@ abbrev pub ◌gives◌ : Bool → Refusal → Test
 
 infix 20 ◌gives◌
 -- the refusal of the first test that finds a fault
-abbrev pub first_of : List Test → Verdict
-first_of [] = Accepted
-first_of (t ∷ ts) = cond t.fault (Refused t.reason) (first_of ts)
+abbrev pub first_of : List Test → Result (Unit {0}) Refusal
+first_of [] = Ok tt
+first_of (t ∷ ts) = cond t.fault (Err t.reason) (first_of ts)
 
 -- ---- what the tests find
 -- no test finds a fault

@@ -1,11 +1,9 @@
 -- The numbers of the refusals: document 01, "Numbered refusals". Every answer gets its number from here, through one definition in the
 -- crate of the answer.
-use Rattle.std.specs.Prelude.{ℕ}
+use Rattle.std.specs.Prelude.{ℕ, Result, Ok, Err}
 use Rattle.refusal.specs.declared.Refusal.{Refusal}
 use Rattle.refusal.specs.declared.Refusal.TheVariants.{StartTooLarge, RangeTooLong, NoBlockSize, BufferTooShort, WrongCentroids, WrongDocuments, EmptySummary, OutsideLimits, MalformedList}
 use Rattle.refusal.specs.declared.Refusal.TheVariants.{WrongQuery, NothingToKeep, WrongKeptList, PastTheTerms, WrongTerms, NoSuchStart}
-use Rattle.refusal.specs.declared.Verdict.{Verdict}
-use Rattle.refusal.specs.declared.Verdict.TheVariants.{Accepted, Refused}
 
 abbrev pub number_of : Refusal → ℕ
 number_of StartTooLarge = 1
@@ -25,6 +23,6 @@ number_of WrongTerms = 14
 number_of NoSuchStart = 15
 
 -- a verdict in document 01's terms: 0 where the call is accepted, else the number of its refusal
-abbrev pub verdict_number : Verdict → ℕ
-verdict_number Accepted = 0
-verdict_number (Refused r) = number_of r
+abbrev pub verdict_number : Result (Unit {0}) Refusal → ℕ
+verdict_number (Ok _) = 0
+verdict_number (Err r) = number_of r

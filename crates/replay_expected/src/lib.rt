@@ -26,7 +26,7 @@ pub fn same_longs(longs: &[u64], expected: &[u32], rest: u32) -> bool
     let mut same = true;
     let mut i = 0;
     while i < longs.len() {
-        same = same & (longs[i] == cells::at_u32(expected, i, rest) as u64);
+        same = same & (longs[i] == cells::at(expected, i, rest) as u64);
         i += 1;
     }
     same & (expected.len() <= longs.len())
@@ -39,7 +39,7 @@ pub fn same_words(words: &[u32], expected: &[u32], rest: u32) -> bool
     let mut same = true;
     let mut i = 0;
     while i < words.len() {
-        same = same & (words[i] == cells::at_u32(expected, i, rest));
+        same = same & (words[i] == cells::at(expected, i, rest));
         i += 1;
     }
     same & (expected.len() <= words.len())
@@ -52,7 +52,7 @@ pub fn same_shorts(shorts: &[u16], expected: &[u32], rest: u32) -> bool
     let mut same = true;
     let mut i = 0;
     while i < shorts.len() {
-        same = same & (wider(shorts[i]) == cells::at_u32(expected, i, rest));
+        same = same & (wider(shorts[i]) == cells::at(expected, i, rest));
         i += 1;
     }
     same & (expected.len() <= shorts.len())
@@ -65,7 +65,7 @@ pub fn same_bytes(bytes: &[u8], expected: &[u32], rest: u32) -> bool
     let mut same = true;
     let mut i = 0;
     while i < bytes.len() {
-        same = same & (wide(bytes[i]) == cells::at_u32(expected, i, rest));
+        same = same & (wide(bytes[i]) == cells::at(expected, i, rest));
         i += 1;
     }
     same & (expected.len() <= bytes.len())
@@ -78,7 +78,7 @@ pub fn same_floats(floats: &[f32], expected: &[u32], rest: u32) -> bool
     let mut same = true;
     let mut i = 0;
     while i < floats.len() {
-        same = same & (float32::key(floats[i]) == cells::at_u32(expected, i, rest));
+        same = same & (float32::key(floats[i]) == cells::at(expected, i, rest));
         i += 1;
     }
     same & (expected.len() <= floats.len())

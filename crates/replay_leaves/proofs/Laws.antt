@@ -8,7 +8,6 @@ use lib.ListN.{length, get_or, replicate}
 use lib.Dec.{eqb}
 use lib.Ieee.{Float}
 use Rattle.refusal.specs.declared.Refusal.{Refusal}
-use Rattle.refusal.specs.declared.Verdict.{Verdict}
 use Rattle.refusal.specs.Refusals.{verdict_number}
 use Rattle.float32.specs.Key.{key_of, value_of}
 use Rattle.float32.specs.Laws.KeyLaws.{key-of-nan}
@@ -44,7 +43,7 @@ quantizes-by w {a} {codes = codes} p q e x y z r s =
     let left_by : left a codes ≡ quantized (slice_at w 3 (spread value_of 1024 w)) (replicate 64 9) = e ∙ rw (q, p) in rw (r, s, x, y, z) (ap (quantized_as w) left_by)
 
 -- the call, and then what it left against what was recorded
-pub pushes-by : (w : List ℕ) {v : Verdict} {e : Scored} {ps xs qs ys : List ℕ} {k n p m o z : ℕ} {packed packed' : List ℕ} {scores scores' : List Float} {x : Float} {b c : Bool}
+pub pushes-by : (w : List ℕ) {v : Result (Unit {0}) Refusal} {e : Scored} {ps xs qs ys : List ℕ} {k n p m o z : ℕ} {packed packed' : List ℕ} {scores scores' : List Float} {x : Float} {b c : Bool}
     → ps ≡ slice_at w 6 w → packed ≡ spread itself 8 ps → xs ≡ slice_at w 7 w → scores ≡ spread value_of 8 xs
     → n ≡ get_or w 2 0 → p ≡ get_or w 3 0 → x ≡ value_of (get_or w 4 0) → e ≡ scored p x → k ≡ get_or w 1 0
     → push.left v (lent m packed' scores') ≡ push.pushed k e (lent n packed scores)

@@ -10,7 +10,7 @@ ghost use Rattle.replay_words.specs.Words.{long, start_of, end_of, slice_at, spr
 pub fn word(words: &[u32], at: usize) -> u32
     ensures { result ≡ get_or words.now at 0 }
 {
-    cells::at_u32(words, at, 0)
+    cells::at(words, at, 0)
 }
 
 // A number of two words, the upper one first.

@@ -1,4 +1,5 @@
 -- A search as a whole: refused as its tests say, or scored and probed.
+use Rattle.std.specs.Prelude.{Result, Ok, Err}
 use Prim.Native.Nat.{ℕ, suc, ◌≤◌, min}
 use native.Mathlib.Omega.{arith}
 use mathlib.Core.Path.{◌≡◌, sym, ap, ◌∙◌}
@@ -11,8 +12,6 @@ use borrow.Author.Tests.{eqb-true, leb-true, ltb-true, le-ltb, lt-leb, not-false
 use Rattle.sequences.specs.Laws.Lists.{both}
 use Rattle.refusal.specs.declared.Refusal.{Refusal}
 use Rattle.refusal.specs.declared.Refusal.TheVariants.{NothingToKeep, WrongQuery, WrongDocuments, MalformedList, WrongKeptList, BufferTooShort}
-use Rattle.refusal.specs.declared.Verdict.{Verdict}
-use Rattle.refusal.specs.declared.Verdict.TheVariants as verdict
 use Rattle.refusal.specs.First.{◌gives◌, first_of}
 use Rattle.refusal.specs.Laws.First.{faultless, accepted-by}
 use Rattle.blocking.specs.Limits.{list_limit, block_limit}
@@ -34,7 +33,7 @@ use Rattle.search.proofs.Fronts.{front, put_front, none-listed, all_listed}
 use Rattle.search.proofs.Keyed.{order-length}
 
 -- ---- the verdict
-pub admitted-by : (q : Question) (l : Lends) (b : Bool) (v : Verdict) (x y z w : Bool)
+pub admitted-by : (q : Question) (l : Lends) (b : Bool) (v : Result (Unit {0}) Refusal) (x y z w : Bool)
     → x ≡ slices_hold q.terms.query_components q.terms.query_values → y ≡ well_formed (length q.postings) q.block_offsets q.layout → z ≡ well_kept q.k l.kept → w ≡ room q l b
     → v ≡ first_of ((eqb q.k 0 gives NothingToKeep) ∷ (not x gives WrongQuery) ∷ (not (eqb (length q.terms.components) (length q.terms.values)) gives WrongDocuments) ∷ (not y gives MalformedList) ∷ (not z gives WrongKeptList) ∷ (not w gives BufferTooShort) ∷ [])
     → v ≡ first_of (tests q l b)
@@ -70,7 +69,7 @@ short : (k p s c v : ℕ) → leb k p ≡ true → leb k s ≡ true → ltb c v 
 short k p s c v x y z = rw (no_more k p x, no_more k s y, lt-leb v c (ltb-true c v z))
 
 -- what an accepted question has
-module _ (q : Question) (l : Lends) (b : Bool) (v : Verdict) (e : v ≡ first_of (tests q l b)) (h : v ≡ verdict.Accepted) where
+module _ (q : Question) (l : Lends) (b : Bool) (v : Result (Unit {0}) Refusal) (e : v ≡ first_of (tests q l b)) (h : v ≡ Ok tt) where
   well : well_formed (length q.postings) q.block_offsets q.layout ≡ true
   well = not-false (well_formed (length q.postings) q.block_offsets q.layout) (faultless (tests q l b) (sym e ∙ h)).1.1.1.0
 
@@ -87,7 +86,7 @@ module _ (q : Question) (l : Lends) (b : Bool) (v : Verdict) (e : v ≡ first_of
   block-places = (both (ltb (length q.terms.components) (length l.visits)) b (both (places q.k l.kept) _ roomy).1).1
 
   -- what probing asks is among it
-  probing-accepts : first_of (probing_tests q.k q.terms l) ≡ verdict.Accepted
+  probing-accepts : first_of (probing_tests q.k q.terms l) ≡ Ok tt
   probing-accepts =
       let n = faultless (tests q l b) (sym e ∙ h) in
       let k = kept-few q.k l.kept (not-false (well_kept q.k l.kept) n.1.1.1.1.0) in
@@ -100,12 +99,12 @@ module _ (q : Question) (l : Lends) (b : Bool) (v : Verdict) (e : v ≡ first_of
   found-is xs bs f p s = rw (s, probing-accepts) at p
 
 -- ---- a search
-module _ (q : Question) (l : Lends) (xs : List Float) (v : Verdict) (e : v ≡ first_of (tests q l (score_places q xs))) where
-  pub refused-search : (r : Refusal) → v ≡ verdict.Refused r → leaves (left (Refused r) l) xs ≡ searched q l xs
+module _ (q : Question) (l : Lends) (xs : List Float) (v : Result (Unit {0}) Refusal) (e : v ≡ first_of (tests q l (score_places q xs))) where
+  pub refused-search : (r : Refusal) → v ≡ Err r → leaves (left (Refused r) l) xs ≡ searched q l xs
   unfolding searched
   refused-search r h = rw (← e, h)
 
-  module _ (h : v ≡ verdict.Accepted) where
+  module _ (h : v ≡ Ok tt) where
     pub score-room : block_count q ≤ length xs
     score-room = leb-true (block_count q) (length xs) (block-places q l (score_places q xs) v e h)
 
@@ -124,12 +123,12 @@ module _ (q : Question) (l : Lends) (xs : List Float) (v : Verdict) (e : v ≡ f
     whole-search s f ys p g = let w = accepted-search f ys p g in (w, searched-numbers q s l xs f ys w)
 
 -- ---- a search by score
-module _ (q : Question) (l : Lends) (xs : List Float) (bs : List ℕ) (v : Verdict) (e : v ≡ first_of (tests q l (order_places q xs bs))) where
-  pub refused-in-order : (r : Refusal) → v ≡ verdict.Refused r → leaves_in_order (left (Refused r) l) xs bs ≡ searched_in_order q l xs bs
+module _ (q : Question) (l : Lends) (xs : List Float) (bs : List ℕ) (v : Result (Unit {0}) Refusal) (e : v ≡ first_of (tests q l (order_places q xs bs))) where
+  pub refused-in-order : (r : Refusal) → v ≡ Err r → leaves_in_order (left (Refused r) l) xs bs ≡ searched_in_order q l xs bs
   unfolding searched_in_order
   refused-in-order r h = rw (← e, h)
 
-  module _ (h : v ≡ verdict.Accepted) where
+  module _ (h : v ≡ Ok tt) where
     pub places-in-order : (block_count q ≤ length xs) × (block_count q ≤ length bs)
     places-in-order =
         let p = both (score_places q xs) (leb (block_count q) (length bs)) (block-places q l (order_places q xs bs) v e h) in

@@ -1,9 +1,8 @@
 -- What a search gives back, and what it leaves in lent memory. Document 01, "Search" and "Numbered refusals".
-use Rattle.std.specs.Prelude.{ℕ, Bool, not, ◌&&◌, List, [], ◌∷◌, length, eqb, leb, ltb, Float}
+use Rattle.refusal.specs.declared.Refusal.{Refusal}
+use Rattle.std.specs.Prelude.{ℕ, Bool, not, ◌&&◌, List, [], ◌∷◌, length, eqb, leb, ltb, Float, Result, Ok, Err}
 use Rattle.sequences.specs.Lists.{from}
 use Rattle.refusal.specs.declared.Refusal.TheVariants.{NothingToKeep, WrongQuery, WrongDocuments, MalformedList, WrongKeptList, BufferTooShort}
-use Rattle.refusal.specs.declared.Verdict.{Verdict}
-use Rattle.refusal.specs.declared.Verdict.TheVariants as verdict
 use Rattle.refusal.specs.First.{Test, ◌gives◌, first_of}
 use Rattle.documents.specs.Documents.{paired}
 use Rattle.documents.specs.Checks.{slices_hold}
@@ -67,9 +66,9 @@ pub record Searched : Type 0 where
 abbrev pub leaves : Left → List Float → Searched
 leaves f xs = record { found = f; block_scores = xs }
 
-abbrev pub if_accepted : Verdict → Searched → Lends → List Float → Searched
-if_accepted verdict.Accepted done l xs = done
-if_accepted (verdict.Refused r) done l xs = leaves (left (Refused r) l) xs
+abbrev pub if_accepted : Result (Unit {0}) Refusal → Searched → Lends → List Float → Searched
+if_accepted (Ok _) done l xs = done
+if_accepted (Err r) done l xs = leaves (left (Refused r) l) xs
 
 -- a score for each stored minimum
 abbrev pub score_places : Question → List Float → Bool
@@ -87,9 +86,9 @@ pub record SearchedInOrder : Type 0 where
 abbrev pub leaves_in_order : Left → List Float → List ℕ → SearchedInOrder
 leaves_in_order f xs bs = record { found = f; block_scores = xs; block_order = bs }
 
-abbrev pub if_accepted_in_order : Verdict → SearchedInOrder → Lends → List Float → List ℕ → SearchedInOrder
-if_accepted_in_order verdict.Accepted done l xs bs = done
-if_accepted_in_order (verdict.Refused r) done l xs bs = leaves_in_order (left (Refused r) l) xs bs
+abbrev pub if_accepted_in_order : Result (Unit {0}) Refusal → SearchedInOrder → Lends → List Float → List ℕ → SearchedInOrder
+if_accepted_in_order (Ok _) done l xs bs = done
+if_accepted_in_order (Err r) done l xs bs = leaves_in_order (left (Refused r) l) xs bs
 
 -- and an order place
 abbrev pub order_places : Question → List Float → List ℕ → Bool

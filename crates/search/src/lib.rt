@@ -18,33 +18,33 @@ ghost use Rattle.search.specs.Searched.{question, tests, leaves, leaves_in_order
 ghost use Rattle.search.specs.Numbers.{numbers_left};
 
 use order::order_by_score;
-use refusal::{Refusal, Verdict};
+use refusal::Refusal;
 use search_probe::Answer;
 
 // The first fault in the order of the refusals: 11, 10, 6, 9, 12, 4.
-fn judge(nothing: bool, query: bool, even: bool, list: bool, kept: bool, room: bool) -> Verdict
+fn judge(nothing: bool, query: bool, even: bool, list: bool, kept: bool, room: bool) -> Result<(), Refusal>
     ensures { result ≡ first_of ((nothing gives NothingToKeep) ∷ (not query gives WrongQuery) ∷ (not even gives WrongDocuments)
         ∷ (not list gives MalformedList) ∷ (not kept gives WrongKeptList) ∷ (not room gives BufferTooShort) ∷ []) }
 {
     if nothing {
-        return Verdict::Refused(Refusal::NothingToKeep);
+        return Err(Refusal::NothingToKeep);
     }
     if !query {
-        return Verdict::Refused(Refusal::WrongQuery);
+        return Err(Refusal::WrongQuery);
     }
     if !even {
-        return Verdict::Refused(Refusal::WrongDocuments);
+        return Err(Refusal::WrongDocuments);
     }
     if !list {
-        return Verdict::Refused(Refusal::MalformedList);
+        return Err(Refusal::MalformedList);
     }
     if !kept {
-        return Verdict::Refused(Refusal::WrongKeptList);
+        return Err(Refusal::WrongKeptList);
     }
     if !room {
-        return Verdict::Refused(Refusal::BufferTooShort);
+        return Err(Refusal::BufferTooShort);
     }
-    Verdict::Accepted
+    Ok(())
 }
 
 // Whether the kept buffers hold k entries, each start from 0 to the term count has a visit byte, and there are places for the blocks.
@@ -75,7 +75,7 @@ fn admit(
     scores: &[f32],
     visits: &[u8],
     room: bool,
-) -> Verdict
+) -> Result<(), Refusal>
     ensures { result ≡ first_of (tests (question k nan (terms query_components.now query_values.now components.now
         values.now) postings.now block_offsets.now (arrays summary_components.now component_offsets.now
         summary_ids.now codes.now minimums.now steps.now)) (lends (lent length packed.now scores.now)
@@ -161,7 +161,7 @@ pub fn search(
         visits,
         n <= block_scores.len(),
     );
-    if let Verdict::Refused(reason) = verdict {
+    if let Err(reason) = verdict {
         return Answer::Refused(reason);
     }
     sparse_scores::distances(
@@ -284,7 +284,7 @@ pub fn sort_and_search(
         visits,
         (n <= block_scores.len()) & (n <= block_order.len()),
     );
-    if let Verdict::Refused(reason) = verdict {
+    if let Err(reason) = verdict {
         return Answer::Refused(reason);
     }
     score_and_order(

@@ -24,7 +24,7 @@ pub struct Block {
 pub fn dot_at(block_scores: &[f32], block: BlockNumber) -> f32
     ensures { result ≡ get_or block_scores.now block.0 nan }
 {
-    cells::at_f32(block_scores, block.0 as usize, 0.0 / 0.0)
+    cells::at(block_scores, block.0 as usize, 0.0 / 0.0)
 }
 
 // The worst kept score, the last one; a NaN where nothing is kept.
@@ -34,14 +34,14 @@ pub fn worst_kept(length: u64, scores: &[f32]) -> f32
     if length == 0 {
         return 0.0 / 0.0;
     }
-    cells::at_f32(scores, (length - 1) as usize, 0.0 / 0.0)
+    cells::at(scores, (length - 1) as usize, 0.0 / 0.0)
 }
 
 // A block starts at its own offset, and at 0 where there is none.
 pub fn start_at(block_offsets: &[u64], block: BlockNumber) -> u64
     ensures { result ≡ get_or block_offsets.now block.0 0 }
 {
-    cells::at_u64(block_offsets, block.0 as usize, 0)
+    cells::at(block_offsets, block.0 as usize, 0)
 }
 
 // The end of a block is the offset after its own; the last number of all has none after it.
@@ -50,7 +50,7 @@ pub fn end_at(block_offsets: &[u64], block: BlockNumber) -> u64
 {
     let at = block.0 as usize;
     if at < block_offsets.len() {
-        cells::at_u64(block_offsets, at + 1, 0)
+        cells::at(block_offsets, at + 1, 0)
     } else {
         0
     }
@@ -60,7 +60,7 @@ pub fn end_at(block_offsets: &[u64], block: BlockNumber) -> u64
 pub fn number_at(block_order: &[u64], turn: u64) -> BlockNumber
     ensures { result.0 ≡ get_or block_order.now turn turn }
 {
-    BlockNumber(cells::at_u64(block_order, turn as usize, turn))
+    BlockNumber(cells::at(block_order, turn as usize, turn))
 }
 
 // What a turn needs to know of the block whose turn it is.

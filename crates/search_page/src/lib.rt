@@ -293,7 +293,7 @@ fn laid_two(
     ensures one { result.one ≡ laid_sum table.now components.now values.now (of_bits binary32 0) }
     ensures two { result.two ≡ laid_sum table.now others.now other_values.now (of_bits binary32 0) }
 {
-    let n = cells::shorter(components.len(), others.len());
+    let n = components.len().min(others.len());
     let mut a = 0.0;
     let mut b = 0.0;
     for i in 0..n {

@@ -48,7 +48,7 @@ fn look(
     let range = posting.unpack();
     let from = range.start.0 as usize;
     let to = range.end as usize;
-    let visit = cells::at_u8(visits, from, 0);
+    let visit = cells::at(visits, from, 0);
     let n = documents::term_count(components, values);
     if n < to {
         return seen;

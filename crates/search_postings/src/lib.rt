@@ -183,7 +183,7 @@ fn step_on(
         values,
         k,
         posting,
-        PackedPosting(cells::at_u64(postings, i + 1, 0)),
+        PackedPosting(cells::at(postings, i + 1, 0)),
         length,
         packed,
         scores,
@@ -247,7 +247,7 @@ pub fn probe_postings(
         values.now) postings.now (from first (min end (len postings.now) - first)) counts
         (lends (lent length.old packed.old scores.old) visits.old) }
 {
-    let stop = cells::shorter(end as usize, postings.len());
+    let stop = (end as usize).min(postings.len());
     let mut c = counts;
     let mut narrow = true;
     let mut known = first;
@@ -255,7 +255,7 @@ pub fn probe_postings(
     // a step goes on by one posting or by two
     while i < stop {
         if known <= i {
-            known = cells::shorter(stop - i, AHEAD) + i;
+            known = (stop - i).min(AHEAD) + i;
             narrow = look_ahead(components, values, visits, &postings[i..known]);
         }
         let s = step_on(

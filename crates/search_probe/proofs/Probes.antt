@@ -1,4 +1,5 @@
 -- Probing as a whole: refused as its tests say, or the sweep, laid down.
+use Rattle.std.specs.Prelude.{Result, Ok, Err}
 use Prim.Native.Nat.{ℕ, suc, ◌+◌, ◌≤◌, ◌<◌}
 use native.Mathlib.Omega.{arith}
 use mathlib.Core.Path.{◌≡◌, sym, ap, ◌∙◌, fun_ext}
@@ -12,8 +13,6 @@ use borrow.Author.Tests.{eqb-true, ltb-false, leb-false, not-false}
 use Rattle.sequences.specs.Lists.{from}
 use Rattle.sequences.specs.Laws.Lists.{from-length as length_from, neither}
 use Rattle.refusal.specs.declared.Refusal.{Refusal}
-use Rattle.refusal.specs.declared.Verdict.{Verdict}
-use Rattle.refusal.specs.declared.Verdict.TheVariants as verdict
 use Rattle.refusal.specs.First.{first_of}
 use Rattle.refusal.specs.Laws.First.{faultless}
 use Rattle.documents.specs.Checks.{slices_hold}
@@ -49,12 +48,12 @@ pub laid_out : (table : List Float) (qs : List ℕ) (ws : List Float) → table 
 unfolding table_of of_bits
 laid_out table qs ws e = e
 
-module _ (k : ℕ) (t : Terms) (l : Lends) (v : Verdict) (e : v ≡ first_of (tests k t l)) where
-  pub refused-is : (f : Float) (ps os : List ℕ) (xs : List Float) (bs : List ℕ) (r : Refusal) → v ≡ verdict.Refused r → left (Refused r) l ≡ probed k f t ps os xs bs l
+module _ (k : ℕ) (t : Terms) (l : Lends) (v : Result (Unit {0}) Refusal) (e : v ≡ first_of (tests k t l)) where
+  pub refused-is : (f : Float) (ps os : List ℕ) (xs : List Float) (bs : List ℕ) (r : Refusal) → v ≡ Err r → left (Refused r) l ≡ probed k f t ps os xs bs l
   unfolding probed
   refused-is f ps os xs bs r h = rw (← e, h)
 
-  module _ (h : v ≡ verdict.Accepted) where
+  module _ (h : v ≡ Ok tt) where
     pub ready_of : (table : List Float) → table ≡ table_of t.query_components t.query_values → (sieve : List ℕ) → sieve ≡ sieve_of t.query_components → Ready table sieve t.query_components t.query_values t.components t.values (length (bytes_of t l.visits))
     ready_of table laid sieve s =
         let n = faultless (tests k t l) (sym e ∙ h) in

@@ -1,8 +1,7 @@
 -- What probing leaves: its answer, the kept list where it lies, and the visit bytes.
-use Rattle.std.specs.Prelude.{ℕ, ◌+◌, not, ◌||◌, List, [], ◌∷◌, ◌++◌, length, take, drop, eqb, leb, ltb, Float}
+use Rattle.refusal.specs.declared.Refusal.{Refusal}
+use Rattle.std.specs.Prelude.{ℕ, ◌+◌, not, ◌||◌, List, [], ◌∷◌, ◌++◌, length, take, drop, eqb, leb, ltb, Float, Result, Ok, Err}
 use Rattle.refusal.specs.declared.Refusal.TheVariants.{WrongQuery, WrongDocuments, WrongKeptList, BufferTooShort}
-use Rattle.refusal.specs.declared.Verdict.{Verdict}
-use Rattle.refusal.specs.declared.Verdict.TheVariants as verdict
 use Rattle.refusal.specs.Refusals.{number_of}
 use Rattle.refusal.specs.First.{Test, ◌gives◌, first_of}
 use Rattle.documents.specs.Checks.{slices_hold}
@@ -75,9 +74,9 @@ abbrev pub laid : Terms → Lends → Reached → Left
 laid t l (goes_on s) = left (Found (length s.kept) s.evaluated s.skipped) (lends (written s.kept l.kept) (s.visits ++ rest_of t l.visits))
 laid t l (stops_at r i s) = left (Stopped r i) (lends (written s.kept l.kept) (s.visits ++ rest_of t l.visits))
 
-abbrev pub if_accepted : Verdict → Left → Lends → Left
-if_accepted verdict.Accepted done l = done
-if_accepted (verdict.Refused r) done l = left (Refused r) l
+abbrev pub if_accepted : Result (Unit {0}) Refusal → Left → Lends → Left
+if_accepted (Ok _) done l = done
+if_accepted (Err r) done l = left (Refused r) l
 
 -- the kept entries and the visit bytes as they are lent, nothing counted yet
 abbrev pub opened : Terms → Lends → State

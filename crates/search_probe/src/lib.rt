@@ -7,7 +7,7 @@ ghost use Rattle.refusal.specs.First.{first_of};
 ghost use Rattle.kept_list.specs.Lent.{lent};
 ghost use Rattle.search_probe.specs.Probed.{terms, lends, left, tests, listed, probed, answer_of};
 
-use refusal::{Refusal, Verdict};
+use refusal::Refusal;
 use search_postings::Turn;
 
 // What a search says: a refusal; a posting at which it was stopped, by its place among the postings; or how many entries are kept,
@@ -54,24 +54,24 @@ fn admit(
     packed: &[u64],
     scores: &[f32],
     visits: &[u8],
-) -> Verdict
+) -> Result<(), Refusal>
     ensures { result ≡ first_of (tests k (terms query_components.now query_values.now components.now values.now)
         (lends (lent length packed.now scores.now) visits.now)) }
 {
     if !document_checks::slices_hold(query_components, query_values) {
-        return Verdict::Refused(Refusal::WrongQuery);
+        return Err(Refusal::WrongQuery);
     }
     if components.len() != values.len() {
-        return Verdict::Refused(Refusal::WrongDocuments);
+        return Err(Refusal::WrongDocuments);
     }
     if k < length {
-        return Verdict::Refused(Refusal::WrongKeptList);
+        return Err(Refusal::WrongKeptList);
     }
     let most = k as usize;
     if (packed.len() < most) | (scores.len() < most) | (visits.len() <= components.len()) {
-        return Verdict::Refused(Refusal::BufferTooShort);
+        return Err(Refusal::BufferTooShort);
     }
-    Verdict::Accepted
+    Ok(())
 }
 
 // So many blocks have their turns, in the order given as far as it goes, and then in number order: with no order, all of them. Refused
@@ -112,7 +112,7 @@ pub fn probe(
         scores,
         visits,
     );
-    if let Verdict::Refused(reason) = verdict {
+    if let Err(reason) = verdict {
         return Answer::Refused(reason);
     }
     let bytes = components.len() + 1;

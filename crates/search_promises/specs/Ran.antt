@@ -1,6 +1,5 @@
 -- What an accepted search leaves where it was lent: the k best, in order, and all that the next search needs.
-use Rattle.std.specs.Prelude.{ℕ, ◌≡◌, true, List, ◌++◌}
-use Rattle.refusal.specs.declared.Verdict.TheVariants.{Accepted}
+use Rattle.std.specs.Prelude.{ℕ, ◌≡◌, true, List, ◌++◌, Ok}
 use Rattle.refusal.specs.First.{first_of}
 use Rattle.kept_list.specs.Entry.{better}
 use Rattle.kept_list.specs.Keep.{k_best}
@@ -14,7 +13,7 @@ use Rattle.search.specs.Promises.{SearchPromises}
 
 -- an accepted search, its blocks in this order, that left x
 pub record Ran (q : Question) (l : Lends) (blocks : List ℕ) (x : Lends) : Type 0 where
-  pub accepted : first_of (tests q l true) ≡ Accepted
+  pub accepted : first_of (tests q l true) ≡ Ok tt
   pub promises : SearchPromises q l blocks (swept q blocks l)
   -- the kept list and the visit bytes where they lie; what lies past them is as it was
   pub kept_is : x.kept ≡ written (left (swept q blocks l)).kept l.kept

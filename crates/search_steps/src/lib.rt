@@ -10,14 +10,14 @@ use number_types::RangeStart;
 pub fn is_visited(visits: &[u8], start: RangeStart) -> bool
     ensures { result ≡ not (eqb (get_or visits.now start.0 0) 0) }
 {
-    cells::at_u8(visits, start.0 as usize, 0) != 0
+    cells::at(visits, start.0 as usize, 0) != 0
 }
 
 // A visit writes 1.
 pub fn visit(visits: &mut [u8], start: RangeStart)
     ensures { visits.new ≡ set visits.old start.0 1 }
 {
-    cells::put_u8(visits, start.0 as usize, 1);
+    cells::put(visits, start.0 as usize, 1);
 }
 
 // Whether a block is skipped: k are kept, and its score is below the factor times the worst kept score.

@@ -9,7 +9,6 @@ ghost use Rattle.sparse_scores.specs.Scores.{scores_of, put_in};
 ghost use Rattle.documents.specs.Documents.{paired};
 ghost use Rattle.sparse_scores.specs.Walk.{grown, grown_by, Spans};
 
-use cells::shorter;
 use number_types::BlockNumber;
 
 // Sets the first n scores to +0.
@@ -153,7 +152,7 @@ fn add_term(
         summary_ids.now codes.now minimums.now steps.now) place c) block_scores.old }
 {
     let range = range_at(summary_components, component_offsets, place, c);
-    let end = shorter(range.to, shorter(summary_ids.len(), codes.len()));
+    let end = range.to.min(summary_ids.len().min(codes.len()));
     add_entries(
         n,
         minimums,
@@ -183,7 +182,7 @@ pub fn distances(
     ensures { block_scores.new ≡ put_in (scores_of (arrays summary_components.now component_offsets.now summary_ids.now codes.now
         minimums.now steps.now) (paired query_components.now query_values.now)) block_scores.old }
 {
-    let n = shorter(shorter(minimums.len(), steps.len()), block_scores.len());
+    let n = minimums.len().min(steps.len()).min(block_scores.len());
     clear(n, block_scores);
     let mut place = 0usize;
     let mut last = 0u32;

@@ -16,8 +16,8 @@ use number_types::DocumentId;
 fn raise(xs: &mut [f32], i: usize, x: f32)
     ensures { xs.new ≡ cond (lt (get_or xs.old i nan) x) (set xs.old i x) xs.old }
 {
-    if cells::at_f32(xs, i, 0.0 / 0.0) < x {
-        cells::put_f32(xs, i, x);
+    if cells::at(xs, i, 0.0 / 0.0) < x {
+        cells::put(xs, i, x);
     }
 }
 
@@ -25,7 +25,7 @@ fn raise(xs: &mut [f32], i: usize, x: f32)
 fn stands_at(keys: &[u64], count: usize, place: usize, component: u64) -> bool
     ensures { result ≡ (ltb place count && eqb (get_or keys.now place 0) component) }
 {
-    place < count && cells::at_u64(keys, place, 0) == component
+    place < count && cells::at(keys, place, 0) == component
 }
 
 // Takes one term into the block's maximum, and answers how many components are met; a component from the limit on is passed over. A
@@ -46,15 +46,15 @@ fn meet_term(
     if limit <= c {
         return count;
     }
-    let place = cells::at_u64(places, c, 0) as usize;
+    let place = cells::at(places, c, 0) as usize;
     if stands_at(keys, count, place, c as u64) {
         raise(maxima, place, value);
         return count;
     }
     if count < keys.len() {
         keys[count] = c as u64;
-        cells::put_u64(places, c, count as u64);
-        cells::put_f32(maxima, count, value);
+        cells::put(places, c, count as u64);
+        cells::put(maxima, count, value);
         return count + 1;
     }
     count
@@ -142,6 +142,6 @@ pub fn forget(keys: &[u64], places: &mut [u64])
 {
     for key in keys {
         let component = term_keys::component_of_term_key(*key) as usize;
-        cells::put_u64(places, component, 0);
+        cells::put(places, component, 0);
     }
 }

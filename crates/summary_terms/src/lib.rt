@@ -10,7 +10,6 @@ ghost use Rattle.summary_maximum.specs.Meeting.{met};
 ghost use Rattle.summary_terms.specs.Answers.{zero, limit_of, Summarizes};
 ghost use Rattle.summary_terms.specs.Steps.{key_of_pair, reached_by, kept_count, Finished, FinishedFirst};
 
-use cells::shorter;
 use configuration::SummarizationStrategy;
 
 // Joins each component with its maximum into one key.
@@ -53,7 +52,7 @@ fn kept_of(keys: &[u64], strategy: SummarizationStrategy) -> usize
     match strategy {
         SummarizationStrategy::FixedSize { n_components } => {
             let n = n_components as usize;
-            cells::shorter(n, keys.len())
+            n.min(keys.len())
         }
         SummarizationStrategy::EnergyPreserving { summary_energy } => {
             let goal = total(keys) * summary_energy;
@@ -76,7 +75,7 @@ fn finish(
     join_keys(keys, maxima);
     sort::sort(keys);
     summary_maximum::forget(keys, places);
-    clearing::clear_f32(maxima);
+    clearing::clear(maxima);
     kept_of(keys, strategy)
 }
 
@@ -99,7 +98,7 @@ fn finish_first(
 fn limit_of(dimension: u64, keys: usize, places: usize, maxima: usize) -> usize
     ensures { result ≡ limit_of dimension keys places maxima }
 {
-    shorter(shorter(dimension as usize, keys), shorter(places, maxima))
+    (dimension as usize).min(keys).min(places.min(maxima))
 }
 
 // Summarizes a block: each component of its documents with its maximum there, the greatest first, of which the strategy keeps some.

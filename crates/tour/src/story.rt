@@ -1,8 +1,9 @@
 // The story of one search, in the order in which it is printed: what it found, its turns, why each page of the list that is not kept is
 // not, and what that shows. Then how the list is built and searched.
+use refusal::Refusal;
 use crate::pages;
 use crate::text::{Hundredths, name};
-use build_meaning::BuildAnswer;
+use build_meaning::Result<BuiltSizes, Refusal>;
 use configuration::{BlockingStrategy, SummarizationStrategy};
 use explain::{Fate, Turn};
 use packing::PackedPosting;
@@ -120,8 +121,8 @@ fn say_found(
     say_part(rt, "found, best first", length)?;
     for i in 0..length {
         let at = i as usize;
-        let posting = PackedPosting(cells::at_u64(packed, at, 0));
-        say_kept(rt, offsets, posting, cells::at_f32(scores, at, 0.0))?;
+        let posting = PackedPosting(cells::at(packed, at, 0));
+        say_kept(rt, offsets, posting, cells::at(scores, at, 0.0))?;
     }
     Ok(())
 }
@@ -232,7 +233,7 @@ fn tell_course(
     say_part(rt, "not kept", std::num::wrapping_sub_u64(count, length))?;
     let mut missed = count;
     for i in 0..count {
-        let posting = PackedPosting(cells::at_u64(postings, i as usize, 0));
+        let posting = PackedPosting(cells::at(postings, i as usize, 0));
         if !explain::is_kept(posting, length, packed) {
             let fate = explain_small::fate_of(
                 i,
@@ -403,11 +404,11 @@ pub(crate) fn tell(
         &mut steps,
     );
     match answer {
-        BuildAnswer::Refused(reason) => {
+        Err(reason) => {
             let number = reason.number();
             println!(rt; "  the build is refused with {number}")
         }
-        BuildAnswer::Built(sizes) => {
+        Ok(sizes) => {
             search_built(
                 rt,
                 question,

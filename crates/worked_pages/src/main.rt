@@ -5,7 +5,7 @@
 use kept_list::Scored;
 use number_types::RangeStart;
 use packing::PackedPosting;
-use refusal::{Refusal, Verdict};
+use refusal::Refusal;
 use search_probe::Answer;
 use std::io;
 
@@ -109,7 +109,7 @@ fn push(
 ) -> io::Result<()> {
     if let Ok(p) = PackedPosting::pack(start, start.0) {
         let e = Scored::new(p.0, score);
-        if let Verdict::Refused(reason) = kept_push::push(2, length, packed, scores, e) {
+        if let Err(reason) = kept_push::push(2, length, packed, scores, e) {
             say_refusal(rt, reason)?;
         }
     }

@@ -1,5 +1,6 @@
 -- Laws of Blocking: the offsets of fixed blocking, its answers, and the count of centroids.
-use Rattle.std.specs.Prelude.{ℕ, zero, suc, ◌+◌, ◌*◌, ◌≤◌, ◌<◌, ◌/◌, ◌%◌, ◌≡◌, refl, true, false, List, [], ◌∷◌, ◌++◌, map, ltb, Float, length, get_or}
+use Rattle.refusal.specs.declared.Refusal.{Refusal}
+use Rattle.std.specs.Prelude.{ℕ, zero, suc, ◌+◌, ◌*◌, ◌≤◌, ◌<◌, ◌/◌, ◌%◌, ◌≡◌, refl, true, false, List, [], ◌∷◌, ◌++◌, map, ltb, Float, length, get_or, Result, Ok, Err}
 use Rattle.std.proofs.Common.{sym, ◌∙◌, div-mul-le_self, div-add-mod', mod-lt, arith, length-append, le-leb, eq-eqb, ne_eqb}
 use Rattle.std.proofs.Math.Path.{ap}
 use Rattle.std.proofs.lemmas.List.{map-append, length-map}
@@ -7,8 +8,6 @@ use Rattle.std.proofs.Math.Nat.{div-eq_of_lt}
 use Rattle.std.proofs.Math.ListN.{get_or-append}
 use Rattle.std.proofs.lemmas.Bool.{lt-leb}
 use Rattle.refusal.specs.declared.Refusal.TheVariants.{NoBlockSize, BufferTooShort, OutsideLimits}
-use Rattle.refusal.specs.declared.Verdict.{Verdict}
-use Rattle.refusal.specs.declared.Verdict.TheVariants.{Accepted, Refused}
 use Rattle.refusal.specs.First.{first_of}
 use Rattle.sequences.specs.Lists.{from, last_or, never_falls, between}
 use Rattle.sequences.specs.Laws.Lists.{from-length as length_from, last_end}
@@ -74,24 +73,24 @@ pub some-centroid : (fraction : Float) (n : ℕ) → 1 ≤ centroid_count fracti
 some-centroid fraction n = omega arith
 
 module _ (n b : ℕ) (buffer : List ℕ) where
-  by-verdict : (v : Verdict) → first_of (blocking_tests n b (length buffer)) ≡ v → Blocks n b buffer (answered v (n / b + 1)) (left v (fixed_offsets n b) buffer)
+  by-verdict : (v : Result (Unit {0}) Refusal) → first_of (blocking_tests n b (length buffer)) ≡ v → Blocks n b buffer (answered v (n / b + 1)) (left v (fixed_offsets n b) buffer)
   unfolding blocked offsets_left
   by-verdict v e = (ap (λ w. answered w (n / b + 1)) (sym e), ap (λ w. left w (fixed_offsets n b) buffer) (sym e))
 
-  pub length-refused : ltb list_limit n ≡ true → Blocks n b buffer (answered (Refused OutsideLimits) 0) buffer
-  length-refused h = by-verdict (Refused OutsideLimits) (rw h)
+  pub length-refused : ltb list_limit n ≡ true → Blocks n b buffer (answered (Err OutsideLimits) 0) buffer
+  length-refused h = by-verdict (Err OutsideLimits) (rw h)
 
   module _ (short : ltb list_limit n ≡ false) where
-    pub size-refused : b ≡ 0 → Blocks n b buffer (answered (Refused NoBlockSize) 0) buffer
-    size-refused h = by-verdict (Refused NoBlockSize) (rw (short, eq-eqb b 0 h))
+    pub size-refused : b ≡ 0 → Blocks n b buffer (answered (Err NoBlockSize) 0) buffer
+    size-refused h = by-verdict (Err NoBlockSize) (rw (short, eq-eqb b 0 h))
 
     module _ (size : b ≡ 0 → ⊥) where
-      pub blocks-refused : ltb block_limit (n / b) ≡ true → Blocks n b buffer (answered (Refused OutsideLimits) 0) buffer
-      blocks-refused h = by-verdict (Refused OutsideLimits) (rw (short, ne_eqb b 0 size, h))
+      pub blocks-refused : ltb block_limit (n / b) ≡ true → Blocks n b buffer (answered (Err OutsideLimits) 0) buffer
+      blocks-refused h = by-verdict (Err OutsideLimits) (rw (short, ne_eqb b 0 size, h))
 
       module _ (few : ltb block_limit (n / b) ≡ false) where
-        pub buffer-refused : length buffer ≤ n / b → Blocks n b buffer (answered (Refused BufferTooShort) 0) buffer
-        buffer-refused h = by-verdict (Refused BufferTooShort) (rw (short, ne_eqb b 0 size, few, le-leb (length buffer) (n / b) h))
+        pub buffer-refused : length buffer ≤ n / b → Blocks n b buffer (answered (Err BufferTooShort) 0) buffer
+        buffer-refused h = by-verdict (Err BufferTooShort) (rw (short, ne_eqb b 0 size, few, le-leb (length buffer) (n / b) h))
 
-        pub offsets-written : n / b < length buffer → Blocks n b buffer (answered Accepted (n / b + 1)) (left Accepted (fixed_offsets n b) buffer)
-        offsets-written h = by-verdict Accepted (rw (short, ne_eqb b 0 size, few, lt-leb (length buffer) (n / b) h))
+        pub offsets-written : n / b < length buffer → Blocks n b buffer (answered (Ok tt) (n / b + 1)) (left (Ok tt) (fixed_offsets n b) buffer)
+        offsets-written h = by-verdict (Ok tt) (rw (short, ne_eqb b 0 size, few, lt-leb (length buffer) (n / b) h))

@@ -11,15 +11,15 @@ use Rattle.build_blocks.proofs.by_clusters.Goals as goal
 
 pub slice_bounds-cluster-end-2 : goal.slice_bounds-cluster-end-2
 slice_bounds-cluster-end-2 c =
-    sym (length-take-le c.shorter-counted.result c.args.counts.now (omega (arith, c.shorter-counted.ensures)))
+    sym (length-take-le c.min-counted.result c.args.counts.now (omega (arith, c.min-counted.ensures)))
 
 pub slice_bounds-cluster-end-4 : goal.slice_bounds-cluster-end-4
 slice_bounds-cluster-end-4 c =
-    sym (length-take-le c.shorter-scored.result c.args.sums.now (omega (arith, c.shorter-scored.ensures)))
+    sym (length-take-le c.min-scored.result c.args.sums.now (omega (arith, c.min-scored.ensures)))
 
 pub slice_bounds-cluster-end-6 : goal.slice_bounds-cluster-end-6
 slice_bounds-cluster-end-6 c =
-    sym (length-take-le c.shorter-keyed.result c.args.keys.now (omega (arith, c.shorter-keyed.ensures)))
+    sym (length-take-le c.min-keyed.result c.args.keys.now (omega (arith, c.min-keyed.ensures)))
 
 pub returns : goal.returns
 returns c =
@@ -27,8 +27,8 @@ returns c =
     let f = c.cluster in
     clusters-made
     (scratches a.order.now a.blocks.now a.sorted.now a.known.now a.taken.now a.counts.now a.starts.now a.slots.now a.weights.now a.sums.now a.keys.now)
-    (documents a.offsets.now a.components.now a.values.now) a.ids.now a.centroids.now c.requires c.shorter-counted.result c.shorter-scored.result c.shorter-keyed.result
-    c.shorter-counted.ensures c.shorter-scored.ensures (c.shorter-keyed.ensures ∙ ap (λ n. min n (length a.keys.now)) c.longest-most.ensures)
+    (documents a.offsets.now a.components.now a.values.now) a.ids.now a.centroids.now c.requires c.min-counted.result c.min-scored.result c.min-keyed.result
+    c.min-counted.ensures c.min-scored.ensures (c.min-keyed.ensures ∙ ap (λ n. min n (length a.keys.now)) c.longest-most.ensures)
     a.algorithm a.minimum f.result
     (scratches f.new.order f.new.blocks
     f.new.sorted f.new.known

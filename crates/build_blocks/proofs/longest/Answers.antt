@@ -15,7 +15,7 @@ loop-id-preserved c =
     let a = c.args in
     let l = c.loop-id in
     longest-step (documents a.offsets.now a.components.now a.values.now) a.ids.now l.id-index l.most _ _ c.loop-id-test.true c.places_of-p.ensures
-    c.greater_u64-most.ensures l.invariant
+    c.max-most.ensures l.invariant
 
 pub returns : goal.returns
 returns c =

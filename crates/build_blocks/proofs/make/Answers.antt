@@ -5,41 +5,41 @@ use Rattle.build_meaning.specs.Building.{scratches}
 use Rattle.build_blocks.proofs.Making.{refused-made, cut_fits, cut-made, group-fits, group-made}
 use Rattle.build_blocks.proofs.make.Goals as goal
 
-pub shape_of-order-in-Refused : goal.shape_of-order-in-Refused
-shape_of-order-in-Refused c = c.ready-verdict.auto.order
+pub shape_of-order-in-Err : goal.shape_of-order-in-Err
+shape_of-order-in-Err c = c.ready-verdict.auto.order
 
-pub shape_of-blocks-in-Refused : goal.shape_of-blocks-in-Refused
-shape_of-blocks-in-Refused c = c.ready-verdict.auto.blocks
+pub shape_of-blocks-in-Err : goal.shape_of-blocks-in-Err
+shape_of-blocks-in-Err c = c.ready-verdict.auto.blocks
 
-pub shape_of-sorted-in-Refused : goal.shape_of-sorted-in-Refused
-shape_of-sorted-in-Refused c = c.ready-verdict.auto.sorted
+pub shape_of-sorted-in-Err : goal.shape_of-sorted-in-Err
+shape_of-sorted-in-Err c = c.ready-verdict.auto.sorted
 
-pub shape_of-known-in-Refused : goal.shape_of-known-in-Refused
-shape_of-known-in-Refused c = c.ready-verdict.auto.known
+pub shape_of-known-in-Err : goal.shape_of-known-in-Err
+shape_of-known-in-Err c = c.ready-verdict.auto.known
 
-pub shape_of-taken-in-Refused : goal.shape_of-taken-in-Refused
-shape_of-taken-in-Refused c = c.ready-verdict.auto.taken
+pub shape_of-taken-in-Err : goal.shape_of-taken-in-Err
+shape_of-taken-in-Err c = c.ready-verdict.auto.taken
 
-pub shape_of-counts-in-Refused : goal.shape_of-counts-in-Refused
-shape_of-counts-in-Refused c = c.ready-verdict.auto.counts
+pub shape_of-counts-in-Err : goal.shape_of-counts-in-Err
+shape_of-counts-in-Err c = c.ready-verdict.auto.counts
 
-pub shape_of-starts-in-Refused : goal.shape_of-starts-in-Refused
-shape_of-starts-in-Refused c = c.ready-verdict.auto.starts
+pub shape_of-starts-in-Err : goal.shape_of-starts-in-Err
+shape_of-starts-in-Err c = c.ready-verdict.auto.starts
 
-pub shape_of-slots-in-Refused : goal.shape_of-slots-in-Refused
-shape_of-slots-in-Refused c = c.ready-verdict.auto.slots
+pub shape_of-slots-in-Err : goal.shape_of-slots-in-Err
+shape_of-slots-in-Err c = c.ready-verdict.auto.slots
 
-pub shape_of-weights-in-Refused : goal.shape_of-weights-in-Refused
-shape_of-weights-in-Refused c = c.ready-verdict.auto.weights
+pub shape_of-weights-in-Err : goal.shape_of-weights-in-Err
+shape_of-weights-in-Err c = c.ready-verdict.auto.weights
 
-pub shape_of-sums-in-Refused : goal.shape_of-sums-in-Refused
-shape_of-sums-in-Refused c = c.ready-verdict.auto.sums
+pub shape_of-sums-in-Err : goal.shape_of-sums-in-Err
+shape_of-sums-in-Err c = c.ready-verdict.auto.sums
 
-pub shape_of-keys-in-Refused : goal.shape_of-keys-in-Refused
-shape_of-keys-in-Refused c = c.ready-verdict.auto.keys
+pub shape_of-keys-in-Err : goal.shape_of-keys-in-Err
+shape_of-keys-in-Err c = c.ready-verdict.auto.keys
 
-pub returns-in-Refused : goal.returns-in-Refused
-returns-in-Refused c =
+pub returns-in-Err : goal.returns-in-Err
+returns-in-Err c =
     let a = c.args in
     refused-made a.dimension a.blocking (documents a.offsets.now a.components.now a.values.now) a.ids.now a.centroids.now
     (scratches a.order.now a.blocks.now a.sorted.now a.known.now a.taken.now a.counts.now a.starts.now a.slots.now a.weights.now
@@ -49,7 +49,7 @@ returns-in-Refused c =
     c.ready-verdict.new.counts c.ready-verdict.new.starts
     c.ready-verdict.new.slots c.ready-verdict.new.weights
     c.ready-verdict.new.sums c.ready-verdict.new.keys) _
-    c.in-Refused.is c.ready-verdict.ensures.scratch
+    c.in-Err.is c.ready-verdict.ensures.scratch
 
 pub cut-requires : goal.cut-requires
 cut-requires c =

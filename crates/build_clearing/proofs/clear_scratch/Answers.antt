@@ -5,6 +5,6 @@ use Rattle.build_clearing.proofs.clear_scratch.Goals as goal
 pub returns : goal.returns
 unfolding cleared_scratch
 returns c =
-    λ j. scratches (c.clear_u64.ensures j) (c.clear_u64-2.ensures j) (c.clear_u64-3.ensures j) (c.clear_u64-4.ensures j)
-    (c.clear_u64-5.ensures j) (c.clear_u64-6.ensures j) (c.clear_u64-7.ensures j) (c.clear_u64-8.ensures j)
-    (c.clear_f32.ensures j) (c.clear_f32-2.ensures j) (c.clear_u64-9.ensures j)
+    λ j. scratches (c.clear.ensures j) (c.clear-2.ensures j) (c.clear-3.ensures j) (c.clear-4.ensures j)
+    (c.clear-5.ensures j) (c.clear-6.ensures j) (c.clear-7.ensures j) (c.clear-8.ensures j)
+    (c.clear-9.ensures j) (c.clear-10.ensures j) (c.clear-11.ensures j)

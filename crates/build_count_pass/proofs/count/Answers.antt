@@ -10,11 +10,11 @@ use Rattle.build_count_pass.proofs.count.Goals as goal
 
 pub shape_of-entry_counts : goal.shape_of-entry_counts
 shape_of-entry_counts c =
-    c.count_blocks-full.auto.entry_counts ∙ c.clear_u64.auto.numbers
+    c.count_blocks-full.auto.entry_counts ∙ c.clear.auto.numbers
 
 pub shape_of-store : goal.shape_of-store
 shape_of-store c =
-    c.count_blocks-full.auto.store ∙ c.clear_u64-2.auto.numbers
+    c.count_blocks-full.auto.store ∙ c.clear-2.auto.numbers
 
 pub returns : goal.returns
 returns c =
@@ -26,6 +26,6 @@ returns c =
       left = left-all all a.keys.now a.places.now a.maxima.now a.entry_counts.now a.minimums.now a.steps.now
           t.new.keys w.new.keys t.new.places w.new.places t.new.maxima w.new.maxima
           w.ensures.keys t.auto.keys w.ensures.places t.auto.places w.ensures.maxima t.auto.maxima
-          c.clear_u64.new.numbers c.clear_u64.ensures (noted t.new.entry_counts t.new.minimums t.new.steps) t.ensures.notes;
-      store = store-all all a.store.now c.clear_u64-2.new.numbers t.new.store c.clear_u64-2.ensures t.ensures.store;
+          c.clear.new.numbers c.clear.ensures (noted t.new.entry_counts t.new.minimums t.new.steps) t.ensures.notes;
+      store = store-all all a.store.now c.clear-2.new.numbers t.new.store c.clear-2.ensures t.ensures.store;
     }

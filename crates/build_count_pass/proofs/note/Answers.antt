@@ -8,12 +8,12 @@ shape_of-entry_counts c =
 
 pub shape_of-minimums : goal.shape_of-minimums
 shape_of-minimums c =
-    c.put_f32.auto.floats
+    c.put.auto.cells
 
 pub shape_of-steps : goal.shape_of-steps
-shape_of-steps c = c.put_f32-2.auto.floats
+shape_of-steps c = c.put-2.auto.cells
 
 pub returns : goal.returns
 returns c =
-    let a = c.args in note-is a.number.0 a.entry_counts.now a.keys.now a.minimums.now a.steps.now _ _ _ c.extent_of_keys-extent.result c.step_of.result c.tally.ensures c.extent_of_keys-extent.ensures c.put_f32.ensures c.step_of.ensures
-    c.put_f32-2.ensures
+    let a = c.args in note-is a.number.0 a.entry_counts.now a.keys.now a.minimums.now a.steps.now _ _ _ c.extent_of_keys-extent.result c.step_of.result c.tally.ensures c.extent_of_keys-extent.ensures c.put.ensures c.step_of.ensures
+    c.put-2.ensures

@@ -7,11 +7,11 @@ use Rattle.build_kept_keys.proofs.frame_length.Goals as goal
 pub returns-then-n-places : goal.returns-then-n-places
 returns-then-n-places c =
     let a = c.args in
-    let p = c.saturating_sub-places.ensures in let n = c.at_u64-n.ensures in
+    let p = c.saturating_sub-places.ensures in let n = c.at-n.ensures in
     n ∙ front-there a.at a.store.now (omega (arith, c.if-n-places.true))
 
 pub returns-else-n-places : goal.returns-else-n-places
 returns-else-n-places c =
     let a = c.args in
-    let p = c.saturating_sub-places.ensures in let n = c.at_u64-n.ensures in
+    let p = c.saturating_sub-places.ensures in let n = c.at-n.ensures in
     front-none a.at a.store.now (omega (arith, c.if-n-places.false))

@@ -56,7 +56,7 @@ shape_of-entry_counts c =
 
 pub shape_of-store : goal.shape_of-store
 shape_of-store c =
-    c.clear_u64.auto.numbers ∙ c.measure-answer.auto.store
+    c.clear.auto.numbers ∙ c.measure-answer.auto.store
 
 pub returns : goal.returns
 unfolding output_lengths
@@ -79,5 +79,5 @@ returns c =
           c.settle-settled.new.keys c.settle-settled.new.places
           c.settle-settled.new.maxima c.settle-settled.new.entry_counts)
           c.settle-settled.ensures;
-      store = same-zeros a.store.now c.measure-answer.new.store c.clear_u64.new.numbers c.clear_u64.ensures c.measure-answer.auto.store;
+      store = same-zeros a.store.now c.measure-answer.new.store c.clear.new.numbers c.clear.ensures c.measure-answer.auto.store;
     }

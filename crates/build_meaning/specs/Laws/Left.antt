@@ -1,9 +1,7 @@
 -- What a build answers, in document 01's numbers, and what it leaves: the two cases, and a result in front of a buffer.
-use Rattle.std.specs.Prelude.{◌≤◌, ◌≡◌, refl, List, length, take, drop}
+use Rattle.std.specs.Prelude.{◌≤◌, ◌≡◌, refl, List, length, take, drop, Result, Ok, Err}
 use Rattle.std.proofs.Common.{arith, ap, ◌∙◌, length-append, length-drop, take_at, drop_at}
 use Rattle.refusal.specs.declared.Refusal.{Refusal}
-use Rattle.refusal.specs.declared.Verdict.{Verdict}
-use Rattle.refusal.specs.declared.Verdict.TheVariants.{Accepted, Refused}
 use Rattle.refusal.specs.Refusals.{number_of, verdict_number}
 use Rattle.build_meaning.specs.Built.{Input, built}
 use Rattle.build_meaning.specs.Building.{Lent, verdict_of, laid, cleared_output, cleared_scratch, filled, left, answer_by, numbers, in_numbers, builds}
@@ -13,17 +11,17 @@ pub answers_number : (g : Input) (lent : Lent) → (in_numbers (builds g lent).a
 unfolding builds
 answers_number g lent = go (verdict_of g lent)
   where
-    go : (v : Verdict) → (in_numbers (answer_by v (built g))).number ≡ verdict_number v
-    go Accepted = refl
-    go (Refused r) = refl
+    go : (v : Result (Unit {0}) Refusal) → (in_numbers (answer_by v (built g))).number ≡ verdict_number v
+    go (Ok _) = refl
+    go (Err r) = refl
 
 -- a refused build answers its number alone
-pub refused-numbers : (g : Input) (lent : Lent) (r : Refusal) → verdict_of g lent ≡ Refused r → in_numbers (builds g lent).answer ≡ numbers (number_of r) 0 0 0 0 0
+pub refused-numbers : (g : Input) (lent : Lent) (r : Refusal) → verdict_of g lent ≡ Err r → in_numbers (builds g lent).answer ≡ numbers (number_of r) 0 0 0 0 0
 unfolding builds
 refused-numbers g lent r h = ap (λ v. in_numbers (answer_by v (built g))) h
 
 -- an accepted one answers 0 and how long each part of the list is
-pub accepted-numbers : (g : Input) (lent : Lent) → verdict_of g lent ≡ Accepted
+pub accepted-numbers : (g : Input) (lent : Lent) → verdict_of g lent ≡ Ok tt
     → in_numbers (builds g lent).answer
     ≡ numbers 0 (length (built g).postings) (length (built g).block_offsets) (length (built g).summaries.summary_components) (length (built g).summaries.summary_ids)
     (length (built g).summaries.minimums)
@@ -31,12 +29,12 @@ unfolding builds
 accepted-numbers g lent h = ap (λ v. in_numbers (answer_by v (built g))) h
 
 -- a refused build sets all output and scratch to zero
-pub refused-leaves : (g : Input) (lent : Lent) (r : Refusal) → verdict_of g lent ≡ Refused r → left g lent ≡ record { output = cleared_output lent.output; scratch = cleared_scratch lent.scratch }
+pub refused-leaves : (g : Input) (lent : Lent) (r : Refusal) → verdict_of g lent ≡ Err r → left g lent ≡ record { output = cleared_output lent.output; scratch = cleared_scratch lent.scratch }
 unfolding left
 refused-leaves g lent r h = rw h
 
 -- an accepted one zeroes scratch, and leaves its result in front of the output
-pub accepted-leaves : (g : Input) (lent : Lent) → verdict_of g lent ≡ Accepted → left g lent ≡ record { output = filled (built g) lent.output; scratch = cleared_scratch lent.scratch }
+pub accepted-leaves : (g : Input) (lent : Lent) → verdict_of g lent ≡ Ok tt → left g lent ≡ record { output = filled (built g) lent.output; scratch = cleared_scratch lent.scratch }
 unfolding left
 accepted-leaves g lent h = rw h
 

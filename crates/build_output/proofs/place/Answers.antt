@@ -9,19 +9,19 @@ use Rattle.build_output.proofs.Passed.{passed, passed-keys, passed-places, passe
 use Rattle.build_output.proofs.place.Goals as goal
 
 pub slice_bounds-lay-end : goal.slice_bounds-lay-end
-slice_bounds-lay-end c = least-long _ _ _ c.shorter-n.ensures
+slice_bounds-lay-end c = least-long _ _ _ c.min-n.ensures
 
 pub slice_bounds-lay-end-2 : goal.slice_bounds-lay-end-2
 slice_bounds-lay-end-2 c =
-    least-count c.args.entry_counts.now _ _ c.shorter-n.ensures
+    least-count c.args.entry_counts.now _ _ c.min-n.ensures
 
 pub slice_bounds-fill-end : goal.slice_bounds-fill-end
 slice_bounds-fill-end c =
-    let a = c.args in front_long a.entry_counts.now c.lay.new.entry_counts _ (least-long _ _ _ c.shorter-n.ensures) c.lay.auto.entry_counts
+    let a = c.args in front_long a.entry_counts.now c.lay.new.entry_counts _ (least-long _ _ _ c.min-n.ensures) c.lay.auto.entry_counts
 
 pub slice_bounds-fill-end-2 : goal.slice_bounds-fill-end-2
 slice_bounds-fill-end-2 c =
-    let a = c.args in front-count a.entry_counts.now c.lay.new.entry_counts _ (least-long _ _ _ c.shorter-n.ensures) c.lay.auto.entry_counts
+    let a = c.args in front-count a.entry_counts.now c.lay.new.entry_counts _ (least-long _ _ _ c.min-n.ensures) c.lay.auto.entry_counts
 
 pub shape_of-keys : goal.shape_of-keys
 shape_of-keys c =
@@ -37,7 +37,7 @@ shape_of-maxima c =
 
 pub shape_of-entry_counts : goal.shape_of-entry_counts
 shape_of-entry_counts c =
-    passed-long c.args.entry_counts.now c.lay.new.entry_counts c.fill.new.cursors c.clear_u64.new.numbers c.shorter-n.result c.lay.auto.entry_counts c.fill.auto.cursors c.clear_u64.auto.numbers
+    passed-long c.args.entry_counts.now c.lay.new.entry_counts c.fill.new.cursors c.clear.new.numbers c.min-n.result c.lay.auto.entry_counts c.fill.auto.cursors c.clear.auto.numbers
 
 pub shape_of-postings : goal.shape_of-postings
 shape_of-postings c =
@@ -65,24 +65,24 @@ shape_of-codes c =
 pub returns : goal.returns
 returns c =
     let a = c.args in
-    let output = passed a.dimension c.shorter-n.result a.strategy (documents a.offsets.now a.components.now a.values.now) a.order.now a.blocks.now
+    let output = passed a.dimension c.min-n.result a.strategy (documents a.offsets.now a.components.now a.values.now) a.order.now a.blocks.now
     a.store.now a.keys.now a.places.now a.maxima.now a.entry_counts.now c.lay.new.entry_counts (written a.postings.now a.block_offsets.now a.summary_components.now a.component_offsets.now
-    a.summary_ids.now a.codes.now) c.shorter-n.ensures c.lay.auto.entry_counts c.lay.ensures.entry_counts (filling c.fill.new.keys c.fill.new.places c.fill.new.maxima (lent c.fill.new.cursors
+    a.summary_ids.now a.codes.now) c.min-n.ensures c.lay.auto.entry_counts c.lay.ensures.entry_counts (filling c.fill.new.keys c.fill.new.places c.fill.new.maxima (lent c.fill.new.cursors
     c.fill.new.summary_ids c.fill.new.codes)) c.fill.ensures c.write_postings.new.postings c.write_offsets.new.block_offsets c.lay.new.summary_components c.lay.new.component_offsets c.write_postings.ensures
     c.write_offsets.ensures c.lay.ensures.summary_components c.lay.ensures.component_offsets in
-    let keys = passed-keys a.dimension c.shorter-n.result a.strategy (documents a.offsets.now a.components.now a.values.now) a.order.now a.blocks.now
+    let keys = passed-keys a.dimension c.min-n.result a.strategy (documents a.offsets.now a.components.now a.values.now) a.order.now a.blocks.now
     a.store.now a.keys.now a.places.now a.maxima.now a.entry_counts.now c.lay.new.entry_counts (written a.postings.now a.block_offsets.now a.summary_components.now a.component_offsets.now
-    a.summary_ids.now a.codes.now) c.shorter-n.ensures c.lay.auto.entry_counts c.lay.ensures.entry_counts (filling c.fill.new.keys c.fill.new.places c.fill.new.maxima (lent c.fill.new.cursors
+    a.summary_ids.now a.codes.now) c.min-n.ensures c.lay.auto.entry_counts c.lay.ensures.entry_counts (filling c.fill.new.keys c.fill.new.places c.fill.new.maxima (lent c.fill.new.cursors
     c.fill.new.summary_ids c.fill.new.codes)) c.fill.ensures in
-    let places = passed-places a.dimension c.shorter-n.result a.strategy (documents a.offsets.now a.components.now a.values.now) a.order.now a.blocks.now
+    let places = passed-places a.dimension c.min-n.result a.strategy (documents a.offsets.now a.components.now a.values.now) a.order.now a.blocks.now
     a.store.now a.keys.now a.places.now a.maxima.now a.entry_counts.now c.lay.new.entry_counts (written a.postings.now a.block_offsets.now a.summary_components.now a.component_offsets.now
-    a.summary_ids.now a.codes.now) c.shorter-n.ensures c.lay.auto.entry_counts c.lay.ensures.entry_counts (filling c.fill.new.keys c.fill.new.places c.fill.new.maxima (lent c.fill.new.cursors
+    a.summary_ids.now a.codes.now) c.min-n.ensures c.lay.auto.entry_counts c.lay.ensures.entry_counts (filling c.fill.new.keys c.fill.new.places c.fill.new.maxima (lent c.fill.new.cursors
     c.fill.new.summary_ids c.fill.new.codes)) c.fill.ensures in
-    let maxima = passed-maxima a.dimension c.shorter-n.result a.strategy (documents a.offsets.now a.components.now a.values.now) a.order.now a.blocks.now
+    let maxima = passed-maxima a.dimension c.min-n.result a.strategy (documents a.offsets.now a.components.now a.values.now) a.order.now a.blocks.now
     a.store.now a.keys.now a.places.now a.maxima.now a.entry_counts.now c.lay.new.entry_counts (written a.postings.now a.block_offsets.now a.summary_components.now a.component_offsets.now
-    a.summary_ids.now a.codes.now) c.shorter-n.ensures c.lay.auto.entry_counts c.lay.ensures.entry_counts (filling c.fill.new.keys c.fill.new.places c.fill.new.maxima (lent c.fill.new.cursors
+    a.summary_ids.now a.codes.now) c.min-n.ensures c.lay.auto.entry_counts c.lay.ensures.entry_counts (filling c.fill.new.keys c.fill.new.places c.fill.new.maxima (lent c.fill.new.cursors
     c.fill.new.summary_ids c.fill.new.codes)) c.fill.ensures in
-    let counts = passed-counts a.entry_counts.now c.lay.new.entry_counts c.fill.new.cursors c.clear_u64.new.numbers c.shorter-n.result c.lay.auto.entry_counts c.fill.auto.cursors c.clear_u64.ensures in
+    let counts = passed-counts a.entry_counts.now c.lay.new.entry_counts c.fill.new.cursors c.clear.new.numbers c.min-n.result c.lay.auto.entry_counts c.fill.auto.cursors c.clear.ensures in
     record {
       output = output;
       keys = keys;

@@ -8,5 +8,5 @@ use Rattle.build_output.proofs.write_offsets.Goals as goal
 pub returns : goal.returns
 returns c =
     let a = c.args in
-    let n = c.shorter-end in
+    let n = c.min-end in
     ap (λ l. l ++ drop n.result a.block_offsets.now) c.copy_from_slice.ensures.after ∙ in-front a.blocks.now a.block_offsets.now n.result n.ensures

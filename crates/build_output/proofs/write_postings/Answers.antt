@@ -9,7 +9,7 @@ use Rattle.build_output.proofs.Laws.{mapped-step, mapped_end}
 use Rattle.build_output.proofs.write_postings.Goals as goal
 
 pub loop-i-init : goal.loop-i-init
-loop-i-init c = (omega arith, c.shorter-end.ensures, refl, refl)
+loop-i-init c = (omega arith, c.min-end.ensures, refl, refl)
 
 pub loop-i-preserved : goal.loop-i-preserved
 loop-i-preserved c =

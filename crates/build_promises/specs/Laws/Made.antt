@@ -1,10 +1,8 @@
 -- Laws of Made: from the contract of a build and its answer alone to Made or Unmade.
-use Rattle.std.specs.Prelude.{ℕ, suc, ◌<◌, ◌≡◌, true, List, [], length, get_or, take, drop}
+use Rattle.std.specs.Prelude.{ℕ, suc, ◌<◌, ◌≡◌, true, List, [], length, get_or, take, drop, Result, Ok, Err}
 use Rattle.std.proofs.Common.{arith, ◌∙◌}
 use Rattle.std.proofs.Math.Path.{refl, sym, ap, subst}
 use Rattle.refusal.specs.declared.Refusal.{Refusal}
-use Rattle.refusal.specs.declared.Verdict.{Verdict}
-use Rattle.refusal.specs.declared.Verdict.TheVariants.{Accepted, Refused}
 use Rattle.refusal.specs.Laws.First.{first-fault}
 use Rattle.documents.specs.Documents.{Term}
 use Rattle.quantizing.specs.Demand3.{F32s}
@@ -14,8 +12,6 @@ use Rattle.sparse_layout.specs.Layouts.{layout}
 use Rattle.sparse_layout.specs.Laws.Passes.{start-count, code-count, minimum-count, step_count}
 use Rattle.sparse_layout.specs.Near.{StoredNear}
 use Rattle.build_meaning.specs.declared.BuiltSizes.{BuiltSizes}
-use Rattle.build_meaning.specs.declared.BuildAnswer.{BuildAnswer}
-use Rattle.build_meaning.specs.declared.BuildAnswer.TheVariants as answer
 use Rattle.build_meaning.specs.Built.{Input, block_documents, Built, summaries, built}
 use Rattle.build_meaning.specs.Building.{Outputs, outputs, Lent, tests, verdict_of, laid, cleared_output, cleared_scratch, filled, sizes_built, answer_by, leaves, builds}
 use Rattle.build_meaning.specs.Laws.Left.{refused-leaves, accepted-leaves, in-front, past-it}
@@ -66,25 +62,25 @@ module _ (ss : List (List Term)) (ps os : List ℕ) (o : Outputs) where
     found-past = ap (past sizes) l ∙ ap (λ s. past s (filled whole o)) n ∙ lies-past ∙ ap (λ s. past s o) (sym n)
 
 module _ (g : Input) (lent after : Lent) where
-  verdict-built : (v : Verdict) (sizes : BuiltSizes) → answer.Built sizes ≡ answer_by v (built g) → (v ≡ Accepted) × (sizes ≡ sizes_built (built g))
-  verdict-built Accepted sizes e = (refl, cc)
-  verdict-built (Refused r) sizes e = let z : ◌≡◌ {A = ℕ} 0 1 = cc in absurd (omega arith)
+  verdict-built : (v : Result (Unit {0}) Refusal) (sizes : BuiltSizes) → Ok sizes ≡ answer_by v (built g) → (v ≡ Ok tt) × (sizes ≡ sizes_built (built g))
+  verdict-built (Ok _) sizes e = (refl, cc)
+  verdict-built (Err r) sizes e = let z : ◌≡◌ {A = ℕ} 0 1 = cc in absurd (omega arith)
 
-  verdict-refused : (v : Verdict) (r : Refusal) → answer.Refused r ≡ answer_by v (built g) → v ≡ Refused r
-  verdict-refused Accepted r e = let z : ◌≡◌ {A = ℕ} 0 1 = cc in absurd (omega arith)
-  verdict-refused (Refused x) r e = cc
+  verdict-refused : (v : Result (Unit {0}) Refusal) (r : Refusal) → Err r ≡ answer_by v (built g) → v ≡ Err r
+  verdict-refused (Ok _) r e = let z : ◌≡◌ {A = ℕ} 0 1 = cc in absurd (omega arith)
+  verdict-refused (Err x) r e = cc
 
   -- `leaves r after ≡ builds g lent` is the contract of `build`: it answered r, and left `after` where `lent` was
-  pub unmade : (r : BuildAnswer) (reason : Refusal) → leaves r after ≡ builds g lent → r ≡ answer.Refused reason → Unmade g lent reason after
+  pub unmade : (r : Result BuiltSizes Refusal) (reason : Refusal) → leaves r after ≡ builds g lent → r ≡ Err reason → Unmade g lent reason after
   unfolding builds verdict_of
   unmade r reason e a =
-      let v : verdict_of g lent ≡ Refused reason = verdict-refused (verdict_of g lent) reason (sym a ∙ ap (λ l. l.answer) e) in
+      let v : verdict_of g lent ≡ Err reason = verdict-refused (verdict_of g lent) reason (sym a ∙ ap (λ l. l.answer) e) in
       let l : after ≡ record { output = cleared_output lent.output; scratch = cleared_scratch lent.scratch } = ap (λ l. l.lent) e ∙ refused-leaves g lent reason v in
       record { refused = v; first = first-fault (tests g lent) reason v; output = ap (λ l. l.output) l; scratch = ap (λ l. l.scratch) l }
 
   -- a slice of u32 and one of f32 hold nothing else
   module _ (narrow : (k : ℕ) → get_or g.documents.components k 0 < 4294967296) (fs : F32s g.documents.values) where
-    pub made : (r : BuildAnswer) (sizes : BuiltSizes) → leaves r after ≡ builds g lent → r ≡ answer.Built sizes → Made g lent sizes after
+    pub made : (r : Result BuiltSizes Refusal) (sizes : BuiltSizes) → leaves r after ≡ builds g lent → r ≡ Ok sizes → Made g lent sizes after
     unfolding builds built
     made r sizes e a =
         let v = verdict-built (verdict_of g lent) sizes (sym a ∙ ap (λ l. l.answer) e) in

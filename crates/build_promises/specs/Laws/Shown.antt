@@ -1,8 +1,8 @@
 -- Laws of Shown: from the contract of `merino_build` and its number alone to NotBuilt. To Made: proofs/Shown.
-use Rattle.std.specs.Prelude.{◌≡◌, refl}
+use Rattle.build_meaning.specs.declared.BuiltSizes.{BuiltSizes}
+use Rattle.refusal.specs.declared.Refusal.{Refusal}
+use Rattle.std.specs.Prelude.{◌≡◌, refl, Result, Ok, Err}
 use Rattle.std.proofs.Common.{sym, ap, ◌∙◌}
-use Rattle.build_meaning.specs.declared.BuildAnswer.{BuildAnswer}
-use Rattle.build_meaning.specs.declared.BuildAnswer.TheVariants.{Refused, Built}
 use Rattle.build_meaning.specs.Built.{Input}
 use Rattle.build_meaning.specs.Building.{Lent, leaves, builds}
 use Rattle.c_build.specs.Shown.{ShownBuilt, seen_built}
@@ -15,11 +15,11 @@ module _ (g : Input) (lent : Lent) (x : ShownBuilt) (contract : x ≡ seen_built
   pub not-built-shown : (number_shown x ≡ 0 → ⊥) → NotBuilt g lent x
   not-built-shown n = go (builds g lent).answer refl contract
     where
-      go : (a : BuildAnswer) → (builds g lent).answer ≡ a → x ≡ seen_built (leaves a (builds g lent).lent) → NotBuilt g lent x
-      go (Built b) q w = absurd (n (ap number_shown w))
-      go (Refused r) q w = record {
+      go : (a : Result BuiltSizes Refusal) → (builds g lent).answer ≡ a → x ≡ seen_built (leaves a (builds g lent).lent) → NotBuilt g lent x
+      go (Ok b) q w = absurd (n (ap number_shown w))
+      go (Err r) q w = record {
         reason = r;
         number = ap number_shown w;
         sizes = ap sizes_shown w;
-        refused = unmade g lent x.lent (Refused r) r ((λ j. leaves (Refused r) (w j).lent) ∙ ap (λ a. leaves a (builds g lent).lent) (sym q)) refl;
+        refused = unmade g lent x.lent (Err r) r ((λ j. leaves (Err r) (w j).lent) ∙ ap (λ a. leaves a (builds g lent).lent) (sym q)) refl;
       }

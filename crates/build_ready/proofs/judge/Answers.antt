@@ -6,11 +6,11 @@ use Rattle.build_meaning.specs.Needs.{sizes_for, scratch_needs}
 use Rattle.build_ready.proofs.Laws.{refused-early, refused-late, accepted-late}
 use Rattle.build_ready.proofs.judge.Goals as goal
 
-pub returns-in-Refused : goal.returns-in-Refused
-returns-in-Refused c =
+pub returns-in-Err : goal.returns-in-Err
+returns-in-Err c =
     let a = c.args in
     refused-early (input_tests a.dimension a.blocking (documents a.offsets.now a.components.now a.values.now) a.ids.now a.centroids.now) _
-    c.admitted-verdict.result _ c.admitted-verdict.ensures c.in-Refused.is
+    c.admitted-verdict.result _ c.admitted-verdict.ensures c.in-Err.is
 
 pub returns-then-not-suffices : goal.returns-then-not-suffices
 returns-then-not-suffices c =

@@ -7,11 +7,11 @@ use Rattle.build_sizes.proofs.Measured.{measured-refused, stored_refused, roomy,
 use Rattle.build_sizes.specs.Laws.Fronts.{front_long, front-count}
 use Rattle.build_sizes.proofs.measure.Goals as goal
 
-pub returns-in-Refused : goal.returns-in-Refused
-returns-in-Refused c =
+pub returns-in-Err : goal.returns-in-Err
+returns-in-Err c =
     let a = c.args in let j = c.judge_work-verdict in record {
-      left = measured-refused a.dimension a.strategy (documents a.offsets.now a.components.now a.values.now) a.order.now a.blocks.now (counting a.keys.now a.places.now a.maxima.now a.entry_counts.now a.minimums.now a.steps.now) a.lent j.result j.ensures _ c.in-Refused.is;
-      store = stored_refused a.dimension a.strategy (documents a.offsets.now a.components.now a.values.now) a.order.now a.blocks.now (counting a.keys.now a.places.now a.maxima.now a.entry_counts.now a.minimums.now a.steps.now) a.lent j.result j.ensures _ c.in-Refused.is a.store.now;
+      left = measured-refused a.dimension a.strategy (documents a.offsets.now a.components.now a.values.now) a.order.now a.blocks.now (counting a.keys.now a.places.now a.maxima.now a.entry_counts.now a.minimums.now a.steps.now) a.lent j.result j.ensures _ c.in-Err.is;
+      store = stored_refused a.dimension a.strategy (documents a.offsets.now a.components.now a.values.now) a.order.now a.blocks.now (counting a.keys.now a.places.now a.maxima.now a.entry_counts.now a.minimums.now a.steps.now) a.lent j.result j.ensures _ c.in-Err.is a.store.now;
     }
 
 pub slice_bounds-count-end : goal.slice_bounds-count-end

@@ -1,5 +1,5 @@
 -- Over blocks that were made, the layout is judged by a build's last two tests, and its result is the build's.
-use Rattle.std.specs.Prelude.{ℕ, ◌+◌, ◌-◌, ◌≤◌, ◌<◌, max, ◌≡◌, false, length, get_or, T, leb, ltb}
+use Rattle.std.specs.Prelude.{ℕ, ◌+◌, ◌-◌, ◌≤◌, ◌<◌, max, ◌≡◌, false, length, get_or, T, leb, ltb, Ok}
 use native.Mathlib.Omega.{arith}
 use Rattle.std.proofs.Math.Path.{sym, ap}
 use Rattle.std.proofs.Common.{◌∙◌}
@@ -10,7 +10,6 @@ use Rattle.std.specs.Float.{nan, binary32}
 use Rattle.std.specs.Float.Ieee.{fits}
 use borrow.Author.Tests.{leb-true, le-ltb, not-false}
 use Rattle.refusal.specs.declared.Refusal.TheVariants.{BufferTooShort, EmptySummary}
-use Rattle.refusal.specs.declared.Verdict.TheVariants as verdict
 use Rattle.refusal.specs.First.{◌gives◌, first_of, Faultless}
 use Rattle.refusal.specs.Laws.First.{faultless, first-after, faultless-both as apart}
 use Rattle.sequences.specs.Lists.{every}
@@ -65,7 +64,7 @@ roomy n c t dimension l h =
 none-short : (n a b c d : ℕ) → n ≤ a → n ≤ b → n ≤ c → n ≤ d → any_short n a b c d ≡ false
 none-short n a b c d h i j k = rw (le-ltb a n h, le-ltb b n i, le-ltb c n j, le-ltb d n k)
 
-module _ (g : Input) (s : Scratches) (ok : first_of (make_tests g.dimension g.blocking g.documents g.ids g.centroids s) ≡ verdict.Accepted) where
+module _ (g : Input) (s : Scratches) (ok : first_of (make_tests g.dimension g.blocking g.documents g.ids g.centroids s) ≡ Ok tt) where
   faults : Faultless (input_tests g.dimension g.blocking g.documents g.ids g.centroids) × Faultless ((not (scratch_suffices (scratch_needs (sizes_for g.dimension g.blocking
       g.documents g.ids g.centroids)) (scratch_lengths s)) gives BufferTooShort) ∷ [])
   faults = apart (input_tests g.dimension g.blocking g.documents g.ids g.centroids) _ (faultless (make_tests g.dimension g.blocking g.documents g.ids g.centroids s) ok)

@@ -1,5 +1,6 @@
 -- A list's blocks made and then its layout written, or either refused: together that is the build.
-use Rattle.std.specs.Prelude.{ℕ, ◌<◌, ◌≡◌, refl, Bool, true, not, List, [], ◌∷◌, ◌++◌, get_or, pos, T, Float}
+use Rattle.build_meaning.specs.declared.BuiltSizes.{BuiltSizes}
+use Rattle.std.specs.Prelude.{ℕ, ◌<◌, ◌≡◌, refl, Bool, true, not, List, [], ◌∷◌, ◌++◌, get_or, pos, T, Float, Result, Ok, Err}
 use Rattle.std.proofs.Common.{arith, ◌∙◌, true≢false}
 use Rattle.std.proofs.Math.Path.{sym, ap}
 use Rattle.std.proofs.Math.Bool.{false}
@@ -8,15 +9,11 @@ use Rattle.std.specs.Float.{fin, nan, binary32}
 use Rattle.std.specs.Float.Ieee.{fits}
 use Rattle.refusal.specs.declared.Refusal.{Refusal}
 use Rattle.refusal.specs.declared.Refusal.TheVariants.{BufferTooShort, EmptySummary}
-use Rattle.refusal.specs.declared.Verdict.{Verdict}
-use Rattle.refusal.specs.declared.Verdict.TheVariants as verdict
 use Rattle.refusal.specs.First.{Test, ◌gives◌, first_of}
 use Rattle.refusal.specs.Laws.First.{faultless, first-after, first-refused}
 use Rattle.clearing.specs.Laws.Zeros.{zeros-twice, float-zeros-twice}
 use Rattle.build_admission.specs.Admission.{input_tests}
 use Rattle.build_count_pass.specs.Counting.{counting}
-use Rattle.build_meaning.specs.declared.BuildAnswer.{BuildAnswer}
-use Rattle.build_meaning.specs.declared.BuildAnswer.TheVariants as answer
 use Rattle.build_meaning.specs.Built.{Input, blocked_by, blocks, summaries, built}
 use Rattle.build_meaning.specs.Needs.{sizes_for, sizes_of, scratch_needs, scratch_suffices, output_suffices}
 use Rattle.build_meaning.specs.Building as build
@@ -24,8 +21,6 @@ use Rattle.build_meaning.specs.Building.{Outputs, Scratches, scratches, lent, ou
 use Rattle.build_meaning.specs.Building.{answer_by, leaves, builds}
 use Rattle.build_meaning.specs.Laws.Left.{in-front}
 use Rattle.build_meaning.specs.Laws.Offsets.{as_many}
-use Rattle.build_ready.specs.declared.ListBlocks.{ListBlocks}
-use Rattle.build_ready.specs.declared.ListBlocks.TheVariants as made
 use Rattle.build_ready.specs.Made as blocking
 use Rattle.build_ready.specs.Made.{make_tests, holding}
 use Rattle.build_layout.specs.Laid as layout
@@ -37,20 +32,20 @@ regroup [] t b = refl
 regroup (x ∷ a) t b = ap (λ l. x ∷ l) (regroup a t b)
 
 -- ---- what the answer of making blocks says of its verdict
-abbrev is_offsets : ListBlocks → Bool
-is_offsets (made.Refused r) = false
-is_offsets (made.Offsets n) = true
+abbrev is_offsets : Result ℕ Refusal → Bool
+is_offsets (Err r) = false
+is_offsets (Ok n) = true
 
-abbrev reason_or : Refusal → ListBlocks → Refusal
-reason_or q (made.Refused r) = r
-reason_or q (made.Offsets n) = q
+abbrev reason_or : Refusal → Result ℕ Refusal → Refusal
+reason_or q (Err r) = r
+reason_or q (Ok n) = q
 
-abbrev count_in : ListBlocks → ℕ
-count_in (made.Refused r) = 0
-count_in (made.Offsets n) = n
+abbrev count_in : Result ℕ Refusal → ℕ
+count_in (Err r) = 0
+count_in (Ok n) = n
 
 module _ (g : Input) (s : Scratches) where
-  abbrev pub makes : Verdict
+  abbrev pub makes : Result (Unit {0}) Refusal
   makes = first_of (make_tests g.dimension g.blocking g.documents g.ids g.centroids s)
 
   -- a build's verdict is that of making blocks, and then its last two tests
@@ -62,37 +57,37 @@ module _ (g : Input) (s : Scratches) where
   in-turn o = ap first_of (sym (regroup (input_tests g.dimension g.blocking g.documents g.ids g.centroids)
       (not (scratch_suffices (scratch_needs (sizes_for g.dimension g.blocking g.documents g.ids g.centroids)) (scratch_lengths s)) gives BufferTooShort) (last_tests o)))
 
-  by-verdict : (v : Verdict) (o : Outputs) → build.left_by v g (lent o s) ≡ lent (output_by v (built g) o) (cleared_scratch s)
-  by-verdict verdict.Accepted o = refl
-  by-verdict (verdict.Refused r) o = refl
+  by-verdict : (v : Result (Unit {0}) Refusal) (o : Outputs) → build.left_by v g (lent o s) ≡ lent (output_by v (built g) o) (cleared_scratch s)
+  by-verdict (Ok _) o = refl
+  by-verdict (Err r) o = refl
 
   -- a build of any verdict
-  built-by : (v : Verdict) (o : Outputs) → verdict_of g (lent o s) ≡ v → builds g (lent o s) ≡ leaves (answer_by v (built g)) (lent (output_by v (built g) o) (cleared_scratch s))
+  built-by : (v : Result (Unit {0}) Refusal) (o : Outputs) → verdict_of g (lent o s) ≡ v → builds g (lent o s) ≡ leaves (answer_by v (built g)) (lent (output_by v (built g) o) (cleared_scratch s))
   unfolding builds build.left
   built-by v o e = ap (λ v. leaves (answer_by v (built g)) (build.left_by v g (lent o s))) e ∙ ap (leaves (answer_by v (built g))) (by-verdict v o)
 
-  module _ (r1 : ListBlocks) (s1 : Scratches) (e : blocking.left r1 s1 ≡ blocking.left_by makes (blocked_by g.blocking g.documents g.centroids g.ids) s) where
+  module _ (r1 : Result ℕ Refusal) (s1 : Scratches) (e : blocking.left r1 s1 ≡ blocking.left_by makes (blocked_by g.blocking g.documents g.centroids g.ids) s) where
     -- ---- refused before the layout
-    refused-first : (r : Refusal) → r1 ≡ made.Refused r → (v : Verdict) → makes ≡ v → blocking.left r1 s1 ≡ blocking.left_by v (blocked_by g.blocking g.documents g.centroids g.ids) s
-        → (makes ≡ verdict.Refused r) × (s1 ≡ cleared_scratch s)
-    refused-first r w verdict.Accepted q e = absurd (true≢false (sym (ap is_offsets (sym w ∙ ap (λ l. l.answer) e))))
-    refused-first r w (verdict.Refused x) q e = (q ∙ ap verdict.Refused (sym (ap (reason_or r) (sym w ∙ ap (λ l. l.answer) e))), ap (λ l. l.scratch) e)
+    refused-first : (r : Refusal) → r1 ≡ Err r → (v : Result (Unit {0}) Refusal) → makes ≡ v → blocking.left r1 s1 ≡ blocking.left_by v (blocked_by g.blocking g.documents g.centroids g.ids) s
+        → (makes ≡ Err r) × (s1 ≡ cleared_scratch s)
+    refused-first r w (Ok _) q e = absurd (true≢false (sym (ap is_offsets (sym w ∙ ap (λ l. l.answer) e))))
+    refused-first r w (Err x) q e = (q ∙ ap Err (sym (ap (reason_or r) (sym w ∙ ap (λ l. l.answer) e))), ap (λ l. l.scratch) e)
 
-    pub refused-so : (r : Refusal) (o o' : Outputs) → r1 ≡ made.Refused r → o' ≡ cleared_output o → leaves (answer.Refused r) (lent o' s1) ≡ builds g (lent o s)
+    pub refused-so : (r : Refusal) (o o' : Outputs) → r1 ≡ Err r → o' ≡ cleared_output o → leaves (Err r) (lent o' s1) ≡ builds g (lent o s)
     refused-so r o o' w c =
         let f = refused-first r w makes refl e in
-        (λ j. leaves (answer.Refused r) (lent (c j) (f.1 j))) ∙ sym (built-by (verdict.Refused r) o (in-turn o ∙ first-refused (make_tests g.dimension g.blocking g.documents g.ids
+        (λ j. leaves (Err r) (lent (c j) (f.1 j))) ∙ sym (built-by (Err r) o (in-turn o ∙ first-refused (make_tests g.dimension g.blocking g.documents g.ids
         g.centroids s) (last_tests o) r f.0))
 
     -- ---- blocks that were made
-    module _ (count : ℕ) (w : r1 ≡ made.Offsets count) where
-      made-first : (v : Verdict) → makes ≡ v → blocking.left r1 s1 ≡ blocking.left_by v (blocked_by g.blocking g.documents g.centroids g.ids) s
-          → (makes ≡ verdict.Accepted) × (count ≡ length (blocks g).block_offsets) × (s1 ≡ holding (blocks g) s)
+    module _ (count : ℕ) (w : r1 ≡ Ok count) where
+      made-first : (v : Result (Unit {0}) Refusal) → makes ≡ v → blocking.left r1 s1 ≡ blocking.left_by v (blocked_by g.blocking g.documents g.centroids g.ids) s
+          → (makes ≡ Ok tt) × (count ≡ length (blocks g).block_offsets) × (s1 ≡ holding (blocks g) s)
       unfolding blocks
-      made-first verdict.Accepted q e = (q, ap count_in (sym w ∙ ap (λ l. l.answer) e), ap (λ l. l.scratch) e)
-      made-first (verdict.Refused x) q e = absurd (true≢false (ap is_offsets (sym w ∙ ap (λ l. l.answer) e)))
+      made-first (Ok _) q e = (q, ap count_in (sym w ∙ ap (λ l. l.answer) e), ap (λ l. l.scratch) e)
+      made-first (Err x) q e = absurd (true≢false (ap is_offsets (sym w ∙ ap (λ l. l.answer) e)))
 
-      facts : (makes ≡ verdict.Accepted) × (count ≡ length (blocks g).block_offsets) × (s1 ≡ holding (blocks g) s)
+      facts : (makes ≡ Ok tt) × (count ≡ length (blocks g).block_offsets) × (s1 ≡ holding (blocks g) s)
       facts = made-first makes refl e
 
       order_is : take (length g.ids) s1.order ≡ (blocks g).documents
@@ -107,7 +102,7 @@ module _ (g : Input) (s : Scratches) where
 
       -- the rest is zero, and as long as before
       module _ (narrow : (k : ℕ) → get_or g.documents.components k 0 < 4294967296) (fit : (k : ℕ) → T (fits binary32 (get_or g.documents.values k nan))) (o : Outputs) where
-        abbrev wrote : Verdict
+        abbrev wrote : Result (Unit {0}) Refusal
         wrote = laid_verdict g.dimension g.summarization g.documents (take (length g.ids) s1.order) (take count s1.blocks) (counting s1.keys s1.counts s1.sums s1.starts
             o.minimums o.steps) (output_lengths o)
 
@@ -130,7 +125,7 @@ module _ (g : Input) (s : Scratches) where
         result-is : built_from g.dimension g.summarization g.documents (take (length g.ids) s1.order) (take count s1.blocks) ≡ built g
         result-is = (λ j. built_from g.dimension g.summarization g.documents (order_is j) (offsets_are j)) ∙ same-result g s facts.0 narrow fit
 
-        pub written-so : (r : BuildAnswer) (o' : Outputs) (order' blocks' counts' starts' keys' : List ℕ) (sums' : List Float)
+        pub written-so : (r : Result BuiltSizes Refusal) (o' : Outputs) (order' blocks' counts' starts' keys' : List ℕ) (sums' : List Float)
             → layout.left r o' keys' counts' sums' starts'
             ≡ layout.left_by (laid_verdict g.dimension g.summarization g.documents (take (length g.ids) s1.order) (take count s1.blocks) (counting s1.keys s1.counts s1.sums
             s1.starts o.minimums o.steps) (output_lengths o))

@@ -2,8 +2,8 @@
 use Rattle.c_build.proofs.Choices.{refused-numbers, built-numbers}
 use Rattle.c_build.proofs.show_built.Goals as goal
 
-pub returns-in-Refused : goal.returns-in-Refused
-returns-in-Refused c = refused-numbers _ _ _ c.in-Refused.is c.number.ensures
+pub returns-in-Err : goal.returns-in-Err
+returns-in-Err c = refused-numbers _ _ _ c.in-Err.is c.number.ensures
 
-pub returns-in-Built : goal.returns-in-Built
-returns-in-Built c = built-numbers _ _ c.in-Built.is
+pub returns-in-Ok : goal.returns-in-Ok
+returns-in-Ok c = built-numbers _ _ c.in-Ok.is

@@ -13,18 +13,18 @@ use Rattle.cluster_approximate.proofs.assign.Goals as goal
 
 pub slice_bounds-all-end : goal.slice_bounds-all-end
 slice_bounds-all-end c =
-    sym (length-take-le c.shorter-m.result c.args.centroids.now (omega (arith, c.shorter-m.ensures)))
+    sym (length-take-le c.min-m.result c.args.centroids.now (omega (arith, c.min-m.ensures)))
 
 pub slice_bounds-count-end : goal.slice_bounds-count-end
-slice_bounds-count-end c = omega (arith, c.shorter-n.ensures)
+slice_bounds-count-end c = omega (arith, c.min-n.ensures)
 
 pub slice_bounds-count-end-2 : goal.slice_bounds-count-end-2
 slice_bounds-count-end-2 c =
-    sym (length-take-le c.shorter-n.result c.first_pass.new.taken (omega (arith, c.shorter-n.ensures)))
+    sym (length-take-le c.min-n.result c.first_pass.new.taken (omega (arith, c.min-n.ensures)))
 
 pub assign_again-requires : goal.assign_again-requires
 assign_again-requires c =
-    let a = c.args in cut_fits a.centroids.now a.competing.now c.shorter-m.result c.shorter-m.ensures
+    let a = c.args in cut_fits a.centroids.now a.competing.now c.min-m.result c.min-m.ensures
 
 pub shape_of-competing : goal.shape_of-competing
 shape_of-competing c =
@@ -32,7 +32,7 @@ shape_of-competing c =
 
 pub shape_of-counts : goal.shape_of-counts
 shape_of-counts c =
-    c.assign_again.auto.counts ∙ c.count.auto.counts ∙ c.clear_u64.auto.numbers
+    c.assign_again.auto.counts ∙ c.count.auto.counts ∙ c.clear.auto.numbers
 
 pub shape_of-starts : goal.shape_of-starts
 shape_of-starts c =
@@ -61,12 +61,12 @@ shape_of-taken c =
 pub returns : goal.returns
 returns c =
     let a = c.args in
-    let m = c.shorter-m in
+    let m = c.min-m in
     let f = c.fill in
     let o = c.first_of-first in
     let p = c.first_pass in
-    let z = c.clear_u64 in
-    let n = c.shorter-n in
+    let z = c.clear in
+    let n = c.min-n in
     let k = c.count in
     let g = c.assign_again in
     let x = assigned-first (documents a.offsets.now a.components.now a.values.now) a.cut (take m.result a.centroids.now) a.known.now

@@ -14,7 +14,7 @@ use Rattle.cluster_approximate_pass.proofs.first_pass.Goals as goal
 pub loop-i-init : goal.loop-i-init
 loop-i-init c =
     let a = c.args in
-    let z = c.clear_f32 in (
+    let z = c.clear in (
       over-start (λ i r. rank_in a.known.now
           (nearly_choice a.cut a.first.0 a.competing.now (documents a.starts.now a.slots.now a.weights.now) (length z.new.values) (length a.keys.now)
           (documents a.offsets.now a.components.now a.values.now) i)) a.ids.now a.taken.now,
@@ -23,22 +23,22 @@ loop-i-init c =
 
 pub loop-i-preserved : goal.loop-i-preserved
 loop-i-preserved c =
-    let l = c.loop-i in let a = c.args in let z = c.clear_f32 in let r = c.near_rank-r in (
+    let l = c.loop-i in let a = c.args in let z = c.clear in let r = c.near_rank-r in (
       taken-first a.known.now a.cut a.first.0 a.competing.now (documents a.starts.now a.slots.now a.weights.now) (length z.new.values)
           (length a.keys.now) (documents a.offsets.now a.components.now a.values.now) a.ids.now a.taken.now l.taken l.i
-          (length l.sums) (length l.keys) r.result.0 l.invariant.0 (omega (arith, c.loop-i-test.true, c.shorter-n.ensures))
-          (omega (arith, c.loop-i-test.true, c.shorter-n.ensures)) l.auto.sums l.auto.keys r.ensures.answer,
+          (length l.sums) (length l.keys) r.result.0 l.invariant.0 (omega (arith, c.loop-i-test.true, c.min-n.ensures))
+          (omega (arith, c.loop-i-test.true, c.min-n.ensures)) l.auto.sums l.auto.keys r.ensures.answer,
       r.ensures.sums ∙ ap (λ n. replicate n none) l.auto.sums,
     )
 
 pub returns : goal.returns
 returns c =
-    let l = c.loop-i in let a = c.args in let z = c.clear_f32 in record {
+    let l = c.loop-i in let a = c.args in let z = c.clear in record {
       taken = over-cut (λ i r. rank_in a.known.now (nearly_choice a.cut a.first.0 a.competing.now (documents a.starts.now a.slots.now a.weights.now)
           (length z.new.values) (length a.keys.now) (documents a.offsets.now a.components.now a.values.now) i)) a.ids.now a.taken.now l.taken l.i
-          c.shorter-n.result l.invariant.0 c.shorter-n.ensures (omega (arith, l.auto.i-end, c.loop-i-test.false))
+          c.min-n.result l.invariant.0 c.min-n.ensures (omega (arith, l.auto.i-end, c.loop-i-test.false))
           ∙ ap (λ n. over (λ i r. rank_in a.known.now (nearly_choice a.cut a.first.0 a.competing.now (documents a.starts.now a.slots.now a.weights.now) (n)
           (length a.keys.now) (documents a.offsets.now a.components.now a.values.now) i)) a.ids.now a.taken.now) z.auto.values;
       sums = l.invariant.1 ∙ ap (λ n. replicate n none) z.auto.values;
-      keys = c.clear_u64.ensures ∙ ap (λ n. replicate n 0) l.auto.keys;
+      keys = c.clear-2.ensures ∙ ap (λ n. replicate n 0) l.auto.keys;
     }

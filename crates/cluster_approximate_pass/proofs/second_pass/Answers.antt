@@ -14,7 +14,7 @@ use Rattle.cluster_approximate_pass.proofs.second_pass.Goals.{then-is_small, els
 pub loop-i-init : goal.loop-i-init
 loop-i-init c =
     let a = c.args in
-    let z = c.clear_f32 in (
+    let z = c.clear in (
       over-start (again_rank a.known.now a.counts.now a.minimum a.cut a.first.0 a.competing.now
           (documents a.starts.now a.slots.now a.weights.now) (length z.new.values) (length a.keys.now)
           (documents a.offsets.now a.components.now a.values.now)) a.ids.now a.taken.now,
@@ -23,31 +23,31 @@ loop-i-init c =
 
 pub loop-i-preserved : goal.loop-i-preserved
 loop-i-preserved c =
-    let l = c.loop-i in let a = c.args in let z = c.clear_f32 in let s = c.is_small in elim c.if-is_small.branch [
+    let l = c.loop-i in let a = c.args in let z = c.clear in let s = c.is_small in elim c.if-is_small.branch [
       | then-is_small w ↦ let r = w.near_rank-r in (
         w.taken-is ∙ taken-again a.known.now a.counts.now a.minimum a.cut a.first.0 a.competing.now (documents a.starts.now a.slots.now a.weights.now)
             (length z.new.values) (length a.keys.now) (documents a.offsets.now a.components.now a.values.now) a.ids.now a.taken.now l.taken l.i
-            (length l.sums) (length l.keys) r.result.0 s.result l.invariant.0 (omega (arith, c.loop-i-test.true, c.shorter-end.ensures))
-            (omega (arith, c.loop-i-test.true, c.shorter-end.ensures)) l.auto.sums l.auto.keys s.ensures w.if-is_small.true r.ensures.answer,
+            (length l.sums) (length l.keys) r.result.0 s.result l.invariant.0 (omega (arith, c.loop-i-test.true, c.min-end.ensures))
+            (omega (arith, c.loop-i-test.true, c.min-end.ensures)) l.auto.sums l.auto.keys s.ensures w.if-is_small.true r.ensures.answer,
         w.sums-is ∙ r.ensures.sums ∙ ap (λ n. replicate n none) l.auto.sums,
       )
       | else-is_small w ↦ (
         w.taken-is ∙ stayed a.known.now a.counts.now a.minimum a.cut a.first.0 a.competing.now (documents a.starts.now a.slots.now a.weights.now)
             (length z.new.values) (length a.keys.now) (documents a.offsets.now a.components.now a.values.now) a.ids.now a.taken.now l.taken l.i
-            s.result l.invariant.0 (omega (arith, c.loop-i-test.true, c.shorter-end.ensures)) (omega (arith, c.loop-i-test.true, c.shorter-end.ensures)) s.ensures w.if-is_small.false,
+            s.result l.invariant.0 (omega (arith, c.loop-i-test.true, c.min-end.ensures)) (omega (arith, c.loop-i-test.true, c.min-end.ensures)) s.ensures w.if-is_small.false,
         w.sums-is ∙ l.invariant.1,
       )
     ]
 
 pub returns : goal.returns
 returns c =
-    let l = c.loop-i in let a = c.args in let z = c.clear_f32 in record {
+    let l = c.loop-i in let a = c.args in let z = c.clear in record {
       taken = over-cut (again_rank a.known.now a.counts.now a.minimum a.cut a.first.0 a.competing.now (documents a.starts.now a.slots.now a.weights.now)
           (length z.new.values) (length a.keys.now) (documents a.offsets.now a.components.now a.values.now)) a.ids.now a.taken.now l.taken l.i
-          c.shorter-end.result l.invariant.0 c.shorter-end.ensures (omega (arith, l.auto.i-end, c.loop-i-test.false))
+          c.min-end.result l.invariant.0 c.min-end.ensures (omega (arith, l.auto.i-end, c.loop-i-test.false))
           ∙ ap (λ n. over (again_rank a.known.now a.counts.now a.minimum a.cut a.first.0 a.competing.now
           (documents a.starts.now a.slots.now a.weights.now) n (length a.keys.now) (documents a.offsets.now a.components.now a.values.now))
           a.ids.now a.taken.now) z.auto.values;
       sums = l.invariant.1 ∙ ap (λ n. replicate n none) z.auto.values;
-      keys = c.clear_u64.ensures ∙ ap (λ n. replicate n 0) l.auto.keys;
+      keys = c.clear-2.ensures ∙ ap (λ n. replicate n 0) l.auto.keys;
     }

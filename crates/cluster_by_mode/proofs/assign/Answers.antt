@@ -9,22 +9,22 @@ use Rattle.cluster_by_mode.proofs.assign.Goals as goal
 
 pub slice_bounds-sort_into-end : goal.slice_bounds-sort_into-end
 slice_bounds-sort_into-end c =
-    sym (length-take-le c.shorter-m.result c.args.centroids.now (omega (arith, c.shorter-m.ensures)))
+    sym (length-take-le c.min-m.result c.args.centroids.now (omega (arith, c.min-m.ensures)))
 
 pub slice_bounds-take_by-end : goal.slice_bounds-take_by-end
 slice_bounds-take_by-end c =
-    sym (length-take-le c.shorter-m.result c.args.centroids.now (omega (arith, c.shorter-m.ensures)))
+    sym (length-take-le c.min-m.result c.args.centroids.now (omega (arith, c.min-m.ensures)))
 
 pub slice_bounds-take_by-end-2 : goal.slice_bounds-take_by-end-2
 slice_bounds-take_by-end-2 c =
-    omega (arith, c.shorter-room.ensures, c.shorter-m.ensures, c.sort_into.auto.out)
+    omega (arith, c.min-room.ensures, c.min-m.ensures, c.sort_into.auto.out)
 
 pub slice_bounds-take_by-end-3 : goal.slice_bounds-take_by-end-3
 slice_bounds-take_by-end-3 c =
-    sym (length-take-le c.shorter-m.result c.sort_into.new.out (omega (arith, c.shorter-room.ensures, c.shorter-m.ensures, c.sort_into.auto.out)))
+    sym (length-take-le c.min-m.result c.sort_into.new.out (omega (arith, c.min-room.ensures, c.min-m.ensures, c.sort_into.auto.out)))
 
 pub shape_of-known : goal.shape_of-known
-shape_of-known c = c.clear_u64.auto.numbers ∙ c.sort_into.auto.out
+shape_of-known c = c.clear.auto.numbers ∙ c.sort_into.auto.out
 
 pub shape_of-competing : goal.shape_of-competing
 shape_of-competing c = c.take_by.auto.competing
@@ -56,8 +56,8 @@ returns c =
     let taken = taken-by a.algorithm (documents a.offsets.now a.components.now a.values.now) a.minimum a.centroids.now a.known.now k.new.out
     (length a.competing.now) (length a.starts.now) (length a.slots.now) (length a.weights.now) (length a.sums.now) (length a.counts.now)
     (length a.keys.now) (take (length a.taken.now) a.ids.now) (drop (length a.ids.now) a.taken.now) f.new.taken
-    c.shorter-room.result c.shorter-m.result c.shorter-room.ensures c.shorter-m.ensures k.ensures f.ensures.taken in
-    let known = c.clear_u64.ensures ∙ ap (λ n. replicate n 0) k.auto.out in
+    c.min-room.result c.min-m.result c.min-room.ensures c.min-m.ensures k.ensures f.ensures.taken in
+    let known = c.clear.ensures ∙ ap (λ n. replicate n 0) k.auto.out in
     record {
       taken = taken;
       known = known;

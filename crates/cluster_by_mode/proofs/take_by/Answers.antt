@@ -7,7 +7,7 @@ use lib.ListN.{length, take, drop}
 use Rattle.cluster_by_mode.proofs.take_by.Goals as goal
 
 pub shape_of-competing-in-RandomKmeans : goal.shape_of-competing-in-RandomKmeans
-shape_of-competing-in-RandomKmeans c = c.clear_u64.auto.numbers
+shape_of-competing-in-RandomKmeans c = c.clear.auto.numbers
 
 pub shape_of-counts-in-RandomKmeans : goal.shape_of-counts-in-RandomKmeans
 shape_of-counts-in-RandomKmeans c = c.assign.auto.counts
@@ -38,7 +38,7 @@ returns-in-RandomKmeans c =
     (length a.keys.now) (take (length a.taken.now) a.ids.now) ++ drop (length a.ids.now) a.taken.now) (sym c.in-RandomKmeans.is) in
     record {
       taken = taken;
-      competing = c.clear_u64.ensures;
+      competing = c.clear.ensures;
       counts = f.ensures.counts;
       starts = f.ensures.starts;
       slots = f.ensures.slots;

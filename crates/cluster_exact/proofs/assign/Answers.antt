@@ -24,7 +24,7 @@ front_length S F m h e =
 
 pub slice_bounds-assign_both-end : goal.slice_bounds-assign_both-end
 slice_bounds-assign_both-end c =
-    sym (length-take-le c.shorter-n.result c.args.ids.now (omega (arith, c.shorter-n.ensures)))
+    sym (length-take-le c.min-n.result c.args.ids.now (omega (arith, c.min-n.ensures)))
 
 pub slice_bounds-assign_both-end-2 : goal.slice_bounds-assign_both-end-2
 slice_bounds-assign_both-end-2 c = omega (arith, c.shorter-m.ensures)
@@ -35,7 +35,7 @@ slice_bounds-assign_both-end-3 c =
 
 pub assign_both-requires : goal.assign_both-requires
 assign_both-requires c =
-    cut_fits c.args.ids.now c.args.taken.now c.shorter-n.result c.shorter-n.ensures
+    cut_fits c.args.ids.now c.args.taken.now c.min-n.result c.min-n.ensures
 
 pub shape_of-counts : goal.shape_of-counts
 shape_of-counts c =
@@ -68,7 +68,7 @@ returns c =
     let f = c.assign_both in
     let g = c.clear in
     let m = c.shorter-m in
-    let n = c.shorter-n in
+    let n = c.min-n in
     let d = documents a.offsets.now a.components.now a.values.now in
     let l : length (take m.result a.sums.now) ≡ min (length a.centroids.now) (length a.sums.now) = length-take-le m.result a.sums.now (omega (arith, m.ensures)) ∙ m.ensures in
     let taken = assigned-cut d a.minimum a.centroids.now a.known.now (length a.starts.now) (length a.slots.now) (length a.weights.now)

@@ -37,6 +37,6 @@ returns c =
     assigned-exactly (documents a.offsets.now a.components.now a.values.now) a.minimum a.centroids.now a.known.now (length a.starts.now)
     (length a.slots.now) (length a.weights.now) (length a.sums.now) (length a.counts.now) a.ids.now a.taken.now
     c.fill.new.starts c.fill.new.slots c.fill.new.weights _
-    c.first_pass.new.taken c.clear_u64.new.numbers c.count.new.counts _
-    c.first_pass.auto.sums c.fill.ensures c.requires c.first_pass.ensures c.clear_u64.ensures
+    c.first_pass.new.taken c.clear.new.numbers c.count.new.counts _
+    c.first_pass.auto.sums c.fill.ensures c.requires c.first_pass.ensures c.clear.ensures
     c.count.ensures c.second_pass.ensures

@@ -9,7 +9,7 @@ use Rattle.cluster_nearest.proofs.largest_keys.Goals as goal
 
 pub returns : goal.returns
 returns c =
-    let a = c.args in let s = c.sort_keys-n in let m = c.shorter in let h = c.places_of-p.ensures.holds in
+    let a = c.args in let s = c.sort_keys-n in let m = c.min in let h = c.places_of-p.ensures.holds in
     let d = documents a.offsets.now a.components.now a.values.now in
     let ts = terms d a.id.0 in
     let left = s.new.keys in

@@ -38,7 +38,7 @@ loop-i-preserved c =
 
 pub returns : goal.returns
 returns c =
-    let a = c.args in let l = c.loop-i in let n = c.shorter-n.result in let t = c.last_of-best-2 in
+    let a = c.args in let l = c.loop-i in let n = c.min-n.result in let t = c.last_of-best-2 in
     last_end _ a.centroids.now a.sums.now n t.result c.if-centroids-eq0.false c.if-sums-eq0.false
-    (none-past candidate a.centroids.now a.sums.now n (omega (arith, c.shorter-n.ensures)))
+    (none-past candidate a.centroids.now a.sums.now n (omega (arith, c.min-n.ensures)))
     (fold-taken l.best t.result a.centroids.now a.sums.now l.i n l.invariant.0 t.ensures ∙ l.invariant.2)

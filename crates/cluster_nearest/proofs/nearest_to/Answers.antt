@@ -8,6 +8,6 @@ pub returns : goal.returns
 returns c =
     let a = c.args in
     record {
-      sums = c.add_terms.ensures ∙ (λ i. add_terms (documents a.starts.now a.slots.now a.weights.now) (c.clear_f32.ensures i) (sym c.places_of-p.ensures.holds i));
+      sums = c.add_terms.ensures ∙ (λ i. add_terms (documents a.starts.now a.slots.now a.weights.now) (c.clear.ensures i) (sym c.places_of-p.ensures.holds i));
       answer = c.first_above_zero.ensures;
     }

@@ -8,7 +8,7 @@ pub loop-i-preserved : goal.loop-i-preserved
 loop-i-preserved c =
     let l = c.loop-i in
     let a = c.args in
-    write_step a.components.now a.values.now l.keys _ l.i _ (omega arith) (omega arith) c.term_key-key.ensures c.put_u64.ensures ∙ l.invariant
+    write_step a.components.now a.values.now l.keys _ l.i _ (omega arith) (omega arith) c.term_key-key.ensures c.put.ensures ∙ l.invariant
 
 pub returns : goal.returns
 returns c = let l = c.loop-i in let a = c.args in sym (write-end a.components.now a.values.now l.keys l.i (omega arith)) ∙ l.invariant

@@ -12,20 +12,20 @@ use Rattle.clustering.proofs.cluster.Goals as goal
 
 pub slice_bounds-sort_into-end : goal.slice_bounds-sort_into-end
 slice_bounds-sort_into-end c =
-    sym (length-take-le c.shorter-n.result c.args.ids.now (omega (arith, c.shorter-n.ensures)))
+    sym (length-take-le c.min-n.result c.args.ids.now (omega (arith, c.min-n.ensures)))
 
 pub slice_bounds-assign-end : goal.slice_bounds-assign-end
 slice_bounds-assign-end c =
-    omega (arith, c.shorter-places.ensures, c.shorter-n.ensures, c.sort_into.auto.out)
+    omega (arith, c.min-places.ensures, c.min-n.ensures, c.sort_into.auto.out)
 
 pub slice_bounds-assign-end-2 : goal.slice_bounds-assign-end-2
 slice_bounds-assign-end-2 c =
-    sym (length-take-le c.shorter-n.result c.sort_into.new.out (omega (arith, c.shorter-places.ensures, c.shorter-n.ensures, c.sort_into.auto.out)))
+    sym (length-take-le c.min-n.result c.sort_into.new.out (omega (arith, c.min-places.ensures, c.min-n.ensures, c.sort_into.auto.out)))
 
 pub group_and_clear-requires : goal.group_and_clear-requires
 group_and_clear-requires c = (
-  omega (arith, c.shorter-places.ensures, c.shorter-n.ensures, c.sort_into.auto.out),
-  omega (arith, c.shorter-places.ensures, c.shorter-n.ensures, c.assign.auto.taken),
+  omega (arith, c.min-places.ensures, c.min-n.ensures, c.sort_into.auto.out),
+  omega (arith, c.min-places.ensures, c.min-n.ensures, c.assign.auto.taken),
 )
 
 pub shape_of-order : goal.shape_of-order
@@ -68,7 +68,7 @@ returns c =
     let k = c.sort_into in let f = c.assign in let g = c.group_and_clear in
     let w = steps-are a.algorithm (documents a.offsets.now a.components.now a.values.now) a.minimum a.ids.now a.centroids.now
     (scratches a.order.now a.blocks.now a.sorted.now a.known.now a.taken.now a.counts.now a.starts.now a.slots.now a.weights.now a.sums.now a.keys.now)
-    c.shorter-places.result c.shorter-n.result c.shorter-places.ensures c.shorter-n.ensures
+    c.min-places.result c.min-n.result c.min-places.ensures c.min-n.ensures
     k.new.out f.new.taken f.new.counts f.new.competing k.ensures f.ensures.taken f.ensures.counts f.ensures.competing in record {
       answer = g.ensures.answer ∙ ap (λ (x : Grouped). x.count) w;
       scratch = λ j. scratches

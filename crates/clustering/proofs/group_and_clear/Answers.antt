@@ -10,15 +10,15 @@ group_some-count-requires c =
 
 pub shape_of-sorted : goal.shape_of-sorted
 shape_of-sorted c =
-    c.clear_u64.auto.numbers
+    c.clear.auto.numbers
 
 pub shape_of-taken : goal.shape_of-taken
 shape_of-taken c =
-    c.clear_u64-2.auto.numbers
+    c.clear-2.auto.numbers
 
 pub shape_of-counts : goal.shape_of-counts
 shape_of-counts c =
-    c.clear_u64-3.auto.numbers ∙ c.group_some-count.auto.counts
+    c.clear-3.auto.numbers ∙ c.group_some-count.auto.counts
 
 pub shape_of-order : goal.shape_of-order
 shape_of-order c =
@@ -34,12 +34,12 @@ returns c =
     let answer = ap (λ (x : Grouped). x.count) g.ensures in
     let order = ap (λ (x : Grouped). x.order) g.ensures in
     let blocks = ap (λ (x : Grouped). x.blocks) g.ensures in
-    let counts = c.clear_u64-3.ensures ∙ ap (λ n. replicate n 0) g.auto.counts in
+    let counts = c.clear-3.ensures ∙ ap (λ n. replicate n 0) g.auto.counts in
     record {
       answer = answer;
       order = order;
       blocks = blocks;
-      sorted = c.clear_u64.ensures;
-      taken = c.clear_u64-2.ensures;
+      sorted = c.clear.ensures;
+      taken = c.clear-2.ensures;
       counts = counts;
     }

@@ -3,4 +3,4 @@ use Rattle.explain.proofs.Kept.{kept-is}
 use Rattle.explain.proofs.is_kept.Goals as goal
 
 pub returns : goal.returns
-returns c = let a = c.args in kept-is a.posting.0 a.length _ a.packed.now _ c.shorter-most.ensures c.contains.ensures.value
+returns c = let a = c.args in kept-is a.posting.0 a.length _ a.packed.now _ c.min-most.ensures c.contains.ensures.value

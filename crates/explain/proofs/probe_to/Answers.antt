@@ -12,9 +12,9 @@ overflow_add-bytes c = omega (arith, c.well_formed.1.1.1.1.1.1.1.0)
 
 pub slice_bounds-reached_fate-end-2 : goal.slice_bounds-reached_fate-end-2
 slice_bounds-reached_fate-end-2 c =
-    sym (length-take-le c.shorter-n.result c.probe-answer.new.visits (omega (arith, c.shorter-n.ensures)))
+    sym (length-take-le c.min-n.result c.probe-answer.new.visits (omega (arith, c.min-n.ensures)))
 
 pub returns : goal.returns
 returns c =
     let a = c.args in fated-in a.k a.factor (terms a.query_components.now a.query_values.now a.components.now a.values.now) a.postings.now a.first
-    a.score a.position (lends (lent a.length.now a.packed.now a.scores.now) a.visits.now) _ _ _ c.probe-answer.ensures c.at_u64-posting.ensures _ c.shorter-n.ensures c.reached_fate.ensures
+    a.score a.position (lends (lent a.length.now a.packed.now a.scores.now) a.visits.now) _ _ _ c.probe-answer.ensures c.at-posting.ensures _ c.min-n.ensures c.reached_fate.ensures

@@ -1,5 +1,6 @@
 -- What is told of a search that came to its end from what it left, its blocks' scores and the order of their turns, is true of it.
-use Rattle.std.specs.Prelude.{ℕ, zero, suc, ◌+◌, ◌≤◌, ◌<◌, Bool, false, ◌&&◌, length, get_or, leb, ltb, Float}
+use Rattle.refusal.specs.declared.Refusal.{Refusal}
+use Rattle.std.specs.Prelude.{ℕ, zero, suc, ◌+◌, ◌≤◌, ◌<◌, Bool, false, ◌&&◌, length, get_or, leb, ltb, Float, Result, Ok, Err}
 use Rattle.std.proofs.Common.{arith, sym, ◌∙◌, ext_get_or}
 use Rattle.std.proofs.Math.Path.{◌≡◌, refl, ap}
 use mathlib.Core.List.{List, [], ◌∷◌, map}
@@ -9,8 +10,6 @@ use Rattle.sequences.specs.Lists.{EachOf, from}
 use Rattle.sequences.specs.Laws.Sorted.{each-sorted_by}
 use Rattle.sequences.specs.Laws.Lists.{both, from_at as made_at, any-default}
 use Rattle.sequences.specs.Laws.Each.{each_to}
-use Rattle.refusal.specs.declared.Verdict.{Verdict}
-use Rattle.refusal.specs.declared.Verdict.TheVariants as verdict
 use Rattle.refusal.specs.First.{first_of, Faultless}
 use Rattle.refusal.specs.Laws.First.{faultless, accepted-by}
 use Rattle.kept_list.specs.Lent.{entries, places}
@@ -80,7 +79,7 @@ unfolding by_score
 order_below xs = each-sorted_by (no_later xs) (λ b. b < length xs) (from 0 (length xs)) (each_below 0 (length xs) (length xs) (omega arith))
 
 -- ---- an accepted search
-module _ (q : Question) (l : Lends) (b : Bool) (accepted : first_of (tests q l b) ≡ verdict.Accepted) where
+module _ (q : Question) (l : Lends) (b : Bool) (accepted : first_of (tests q l b) ≡ Ok tt) where
   faults : Faultless (tests q l b)
   faults = faultless (tests q l b) accepted
 
@@ -91,7 +90,7 @@ module _ (q : Question) (l : Lends) (b : Bool) (accepted : first_of (tests q l b
       le-ltb q.k l.kept.size (leb-true l.kept.size q.k (both (leb l.kept.size q.k) (places l.kept.size l.kept) w.0).0)
 
   -- it is accepted where its blocks are probed
-  probing-accepts : first_of (probing.tests q.k q.terms l) ≡ verdict.Accepted
+  probing-accepts : first_of (probing.tests q.k q.terms l) ≡ Ok tt
   probing-accepts =
       let p = both (leb q.k (length l.kept.packed)) (leb q.k (length l.kept.scores)) (roomy q l b accepted).0 in
       let a : ltb (length l.kept.packed) q.k ≡ false = le-ltb (length l.kept.packed) q.k (leb-true q.k (length l.kept.packed) p.0) in
@@ -141,27 +140,27 @@ module _ (q : Question) (l : Lends) (xs : List Float) where
   unfolding searched
   search-tells n e m h = go (first_of (tests q l (score_places q xs))) refl h
     where
-      go : (v : Verdict) → first_of (tests q l (score_places q xs)) ≡ v → (if_accepted v numbered l xs).found.answer ≡ Found n e m → TellsOf q (if_accepted v numbered l xs).block_scores [] l
+      go : (v : Result (Unit {0}) Refusal) → first_of (tests q l (score_places q xs)) ≡ v → (if_accepted v numbered l xs).found.answer ≡ Found n e m → TellsOf q (if_accepted v numbered l xs).block_scores [] l
           (from 0 (block_count q))
-      go verdict.Accepted a h =
+      go (Ok tt) a h =
           let room = leb-true (block_count q) (length xs) (roomy q l (score_places q xs) a).1.1 in
           let below = each_below 0 (block_count q) (length (scores_for q)) (omega (arith, scores-many q l (score_places q xs) a)) in
           ended-tells q l (score_places q xs) a (put_in (scores_for q) xs) [] (from 0 (block_count q)) (listed-none 0 (block_count q)) (scores-put q l (score_places q xs) a xs room (from 0 (block_count q))
           below) n e m h
-      go (verdict.Refused r) a h = absurd (let z : ◌≡◌ {A = ℕ} 0 1 = cc in omega arith)
+      go (Err r) a h = absurd (let z : ◌≡◌ {A = ℕ} 0 1 = cc in omega arith)
 
   pub sorted-search-tells : (bs : List ℕ) (n e m : ℕ) → (searched_in_order q l xs bs).found.answer ≡ Found n e m → TellsOf q (searched_in_order q l xs bs).block_scores
       (searched_in_order q l xs bs).block_order l (by_score (scores_for q))
   unfolding searched_in_order
   sorted-search-tells bs n e m h = go (first_of (tests q l (order_places q xs bs))) refl h
     where
-      go : (v : Verdict) → first_of (tests q l (order_places q xs bs)) ≡ v → (if_accepted_in_order v (sorted bs) l xs bs).found.answer ≡ Found n e m
+      go : (v : Result (Unit {0}) Refusal) → first_of (tests q l (order_places q xs bs)) ≡ v → (if_accepted_in_order v (sorted bs) l xs bs).found.answer ≡ Found n e m
           → TellsOf q (if_accepted_in_order v (sorted bs) l xs bs).block_scores (if_accepted_in_order v (sorted bs) l xs bs).block_order l (by_score (scores_for q))
-      go verdict.Accepted a h =
+      go (Ok tt) a h =
           let p = both (score_places q xs) (leb (block_count q) (length bs)) (roomy q l (order_places q xs bs) a).1.1 in
           let room = leb-true (block_count q) (length xs) p.0 in
           let places = leb-true (block_count q) (length bs) p.1 in
           let many = order-length (scores_for q) ∙ scores-many q l (order_places q xs bs) a in
           ended-tells q l (order_places q xs bs) a (put_in (scores_for q) xs) (put_in (by_score (scores_for q)) bs) (by_score (scores_for q)) (listed-put (by_score (scores_for q)) bs (block_count q) many places)
           (scores-put q l (order_places q xs bs) a xs room (by_score (scores_for q)) (order_below (scores_for q))) n e m h
-      go (verdict.Refused r) a h = absurd (let z : ◌≡◌ {A = ℕ} 0 1 = cc in omega arith)
+      go (Err r) a h = absurd (let z : ◌≡◌ {A = ℕ} 0 1 = cc in omega arith)

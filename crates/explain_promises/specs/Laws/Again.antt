@@ -1,9 +1,8 @@
 -- What some turns leave where it was lent is taken up again by later ones: it is accepted, and it is the same state.
-use Rattle.std.specs.Prelude.{ℕ, ◌+◌, ◌≤◌, ◌≡◌, false, ◌||◌, List, [], ◌∷◌, ◌++◌, length, leb, ltb}
+use Rattle.std.specs.Prelude.{ℕ, ◌+◌, ◌≤◌, ◌≡◌, false, ◌||◌, List, [], ◌∷◌, ◌++◌, length, leb, ltb, Ok}
 use Rattle.std.proofs.Common.{arith, ap, ◌∙◌, length-append, length-drop, length-take-le, take_at, ltb-false, leb-false, le-ltb}
 use Rattle.std.proofs.lemmas.Bool.{lt-leb}
 use Rattle.sequences.specs.Laws.Lists.{neither}
-use Rattle.refusal.specs.declared.Verdict.TheVariants.{Accepted}
 use Rattle.refusal.specs.First.{first_of}
 use Rattle.refusal.specs.Laws.First.{faultless, accepted-by}
 use Rattle.kept_list.specs.declared.Scored.{Scored}
@@ -26,7 +25,7 @@ keep_all-few : (k : ℕ) (es ps : List Scored) → length es ≤ k → length (k
 keep_all-few k es [] h = h
 keep_all-few k es (p ∷ ps) h = keep_all-few k (keep better k p es) ps (omega (arith, length-keep better k p es))
 
-module _ (k : ℕ) (t : Terms) (l : Lends) (accepted : first_of (tests k t l) ≡ Accepted) where
+module _ (k : ℕ) (t : Terms) (l : Lends) (accepted : first_of (tests k t l) ≡ Ok tt) where
   -- there is room for k entries, and a byte for each start
   places : ((ltb (length l.kept.packed) k ≡ false) × (ltb (length l.kept.scores) k ≡ false)) × (leb (length l.visits) (length t.components) ≡ false)
   places =
@@ -63,7 +62,7 @@ module _ (k : ℕ) (t : Terms) (l : Lends) (accepted : first_of (tests k t l) �
     long : length (s.visits ++ rest_of t l.visits) ≡ length l.visits
     long = omega (arith, length-append s.visits (rest_of t l.visits), length-drop (length t.components + 1) l.visits, bytes, fits.as_many)
 
-    pub accepted-again : first_of (tests k t (laid_down t l s)) ≡ Accepted
+    pub accepted-again : first_of (tests k t (laid_down t l s)) ≡ Ok tt
     accepted-again =
         let f = faultless (tests k t l) accepted in
         let r = room-written k s.kept l.kept fits.few room in

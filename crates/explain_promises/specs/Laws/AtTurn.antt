@@ -1,5 +1,5 @@
 -- What is told of a posting at its block's turn, from the state in which the turns before leave the search.
-use Rattle.std.specs.Prelude.{Some, ℕ, ◌+◌, ◌-◌, ◌≤◌, ◌<◌, min, ◌≡◌, Bool, true, not, ◌&&◌, get_or, ltb}
+use Rattle.std.specs.Prelude.{Some, ℕ, ◌+◌, ◌-◌, ◌≤◌, ◌<◌, min, ◌≡◌, Bool, true, not, ◌&&◌, get_or, ltb, Ok}
 use Rattle.std.proofs.Common.{arith, ◌∙◌, take_at, ne_eqb, le-leb, lt-ltb}
 use Rattle.std.proofs.Math.Path.{sym, ap}
 use Rattle.std.proofs.Math.Bool.{false, cond}
@@ -9,7 +9,6 @@ use Rattle.std.specs.Float.{nan}
 use Rattle.std.specs.Float.Ieee.{binary32, mul}
 use Rattle.sequences.specs.Lists.{before, from, among}
 use Rattle.sequences.specs.Laws.Each.{each_to}
-use Rattle.refusal.specs.declared.Verdict.TheVariants.{Accepted}
 use Rattle.refusal.specs.First.{first_of}
 use Rattle.kept_list.specs.Lent.{score_of}
 use Rattle.search_held.specs.Blocks.{worst_held}
@@ -49,7 +48,7 @@ module _ (q : Search) (p : PostingOf q) where
   pub held-here : holds q.block_offsets (length q.postings) p.place p.block ≡ true
   held-here = ap (λ b. b && ltb p.place end_place) (le-leb first_place p.place within.0) ∙ lt-ltb p.place end_place within.1
 
-module _ (q : Search) (accepted : first_of (tests q.k q.terms q.lent) ≡ Accepted) (p : PostingOf q) (first : InFirst q p) (s : State) (there : sweep (given_of q) p.blocks_before (began_with q)
+module _ (q : Search) (accepted : first_of (tests q.k q.terms q.lent) ≡ Ok tt) (p : PostingOf q) (first : InFirst q p) (s : State) (there : sweep (given_of q) p.blocks_before (began_with q)
     ≡ goes_on s) where
   abbrev at : ℕ
   at = length p.blocks_before

@@ -1,10 +1,9 @@
 -- What became of a posting in the story decides what is told of it.
-use Rattle.std.specs.Prelude.{ℕ, ◌≡◌, refl, Bool, true, false, cond, List, [], ◌∷◌, ◌++◌, length, get_or}
+use Rattle.refusal.specs.declared.Refusal.{Refusal}
+use Rattle.std.specs.Prelude.{ℕ, ◌≡◌, refl, Bool, true, false, cond, List, [], ◌∷◌, ◌++◌, length, get_or, Result, Ok, Err}
 use Rattle.std.proofs.Common.{arith, sym, ap, ◌∙◌, subst}
 use Rattle.std.specs.Float.{nan, binary32}
 use Rattle.std.specs.Float.Ieee.{mul}
-use Rattle.refusal.specs.declared.Verdict.{Verdict}
-use Rattle.refusal.specs.declared.Verdict.TheVariants as verdict
 use Rattle.refusal.specs.First.{first_of}
 use Rattle.search_probe.specs.declared.Answer.TheVariants.{Found}
 use Rattle.search_postings.specs.declared.RangeReading.{RangeReading}
@@ -39,12 +38,12 @@ pub ended-on : (q : Search) → Ended q → Begun q × (z : State) × (sweep (gi
 unfolding probed
 ended-on q h = go (first_of (tests q.k q.terms q.lent)) refl (sweep (given_of q) (blocks_of q) (began_with q)) refl h.found
   where
-    go : (v : Verdict) → first_of (tests q.k q.terms q.lent) ≡ v → (r : Reached) → sweep (given_of q) (blocks_of q) (began_with q) ≡ r
+    go : (v : Result (Unit {0}) Refusal) → first_of (tests q.k q.terms q.lent) ≡ v → (r : Reached) → sweep (given_of q) (blocks_of q) (began_with q) ≡ r
         → (if_accepted v (laid q.terms q.lent r) q.lent).answer ≡ Found h.kept h.evaluated h.skipped
         → Begun q × (z : State) × (sweep (given_of q) (blocks_of q) (began_with q) ≡ goes_on z)
-    go verdict.Accepted a (goes_on z) e f = (a, z, e)
-    go verdict.Accepted a (stops_at n j z) e f = absurd (let z : ◌≡◌ {A = ℕ} 0 1 = cc in omega arith)
-    go (verdict.Refused n) a r e f = absurd (let z : ◌≡◌ {A = ℕ} 0 1 = cc in omega arith)
+    go (Ok _) a (goes_on z) e f = (a, z, e)
+    go (Ok _) a (stops_at n j z) e f = absurd (let z : ◌≡◌ {A = ℕ} 0 1 = cc in omega arith)
+    go (Err n) a r e f = absurd (let z : ◌≡◌ {A = ℕ} 0 1 = cc in omega arith)
 
 module _ (q : Search) (accepted : Begun q) (p : PostingOf q) (first : InFirst q p) where
   -- its block was skipped

@@ -1,10 +1,9 @@
 -- What is told from other buffers that begin the same, and so by crate explain_small, which has its own.
-use Rattle.std.specs.Prelude.{ℕ, zero, suc, ◌+◌, ◌≤◌, ◌<◌, ◌≡◌, false, [], ◌∷◌, length, take, replicate, leb, ltb}
+use Rattle.std.specs.Prelude.{ℕ, zero, suc, ◌+◌, ◌≤◌, ◌<◌, ◌≡◌, false, [], ◌∷◌, length, take, replicate, leb, ltb, Ok}
 use Rattle.std.proofs.Common.{arith, sym, ◌∙◌, le-ltb}
 use Rattle.std.proofs.Math.Path.{refl, ap}
 use Rattle.std.proofs.lemmas.List.{length-replicate}
 use Rattle.std.proofs.lemmas.Bool.{lt-leb}
-use Rattle.refusal.specs.declared.Verdict.TheVariants.{Accepted}
 use Rattle.refusal.specs.First.{first_of}
 use Rattle.refusal.specs.Laws.First.{faultless, accepted-by}
 use Rattle.kept_list.specs.Lent.{beside}
@@ -36,7 +35,7 @@ pub record TellsFrom (q : Search) (l : Lends) : Type 0 where
   pub story_is : story_of (lent_as q l) ≡ story_of q
   pub tells : TellsTrue (lent_as q l)
 
-module _ (q : Search) (l : Lends) (accepted : first_of (tests q.k q.terms l) ≡ Accepted) (begins : opened q.terms l ≡ began_with q) (ended : Ended q) where
+module _ (q : Search) (l : Lends) (accepted : first_of (tests q.k q.terms l) ≡ Ok tt) (begins : opened q.terms l ≡ began_with q) (ended : Ended q) where
   abbrev last : State
   last = (ended-on q ended).1
 
@@ -66,7 +65,7 @@ pub record BeginsShort (q : Search) : Type 0 where
   pub few_terms : length q.terms.components < 64
 
 module _ (q : Search) (short : BeginsShort q) (ended : Ended q) where
-  accepts : first_of (tests q.k q.terms fresh) ≡ Accepted
+  accepts : first_of (tests q.k q.terms fresh) ≡ Ok tt
   accepts =
       let f = faultless (tests q.k q.terms q.lent) (ended-on q ended).0 in
       let a : ltb (length fresh.kept.packed) q.k ≡ false = le-ltb (length fresh.kept.packed) q.k (omega (arith, length-replicate {A = ℕ} 16 0, short.few)) in

@@ -1,17 +1,13 @@
 -- Two results that a contract of this crate allows are equal.
-use Rattle.std.specs.Prelude.{ℕ, ◌≡◌, refl}
+use Rattle.std.specs.Prelude.{ℕ, ◌≡◌, refl, Result, Ok, Err}
 use Rattle.std.proofs.Common.{sym, ap, true≢false}
 use mathlib.Core.List.{List, [], ◌∷◌, map, cons-ne-nil, head-eq_of_cons-eq, tail-eq_of_cons-eq}
 use Rattle.refusal.specs.declared.Refusal.{Refusal}
 use Rattle.refusal.specs.declared.Refusal.TheVariants.{NothingToKeep}
-use Rattle.refusal.specs.declared.Verdict.{Verdict}
-use Rattle.refusal.specs.declared.Verdict.TheVariants as verdict
 use Rattle.kept_list.specs.declared.Scored.{Scored}
 use Rattle.kept_list.specs.Entry.{scored}
 use Rattle.kept_list.specs.Lent.{packed_of, score_of}
 use Rattle.kept_list.specs.Push.{left}
-use Rattle.kept_entries.specs.declared.Pushed.{Pushed}
-use Rattle.kept_entries.specs.declared.Pushed.TheVariants as answer
 use Rattle.kept_entries.specs.Entries.{as_lent}
 use Rattle.kept_entries.specs.Answers.{is_refused, verdict_in, length_in}
 
@@ -29,18 +25,18 @@ pub settled_same : (m n : ℕ) (es fs : List Scored) → as_lent m es ≡ as_len
 settled_same m n es fs h = (ap (λ l. l.size) h, columns-same es fs (ap (λ l. l.packed) h) (ap (λ l. l.scores) h))
 
 -- an answer is told by its verdict and the length after it
-abbrev reason : Verdict → Refusal
-reason verdict.Accepted = NothingToKeep
-reason (verdict.Refused r) = r
+abbrev reason : Result (Unit {0}) Refusal → Refusal
+reason (Ok _) = NothingToKeep
+reason (Err r) = r
 
-answer-same : (n : ℕ) (r s : Pushed) → verdict_in r ≡ verdict_in s → length_in n r ≡ length_in n s → r ≡ s
-answer-same n (answer.Kept a) (answer.Kept b) p q = ap answer.Kept q
-answer-same n (answer.Kept a) (answer.Refused s) p q = absurd (true≢false (sym (ap is_refused p)))
-answer-same n (answer.Refused r) (answer.Kept b) p q = absurd (true≢false (ap is_refused p))
-answer-same n (answer.Refused r) (answer.Refused s) p q = ap answer.Refused (ap reason p)
+answer-same : (n : ℕ) (r s : Result ℕ Refusal) → verdict_in r ≡ verdict_in s → length_in n r ≡ length_in n s → r ≡ s
+answer-same n (Ok a) (Ok b) p q = ap Ok q
+answer-same n (Ok a) (Err s) p q = absurd (true≢false (sym (ap is_refused p)))
+answer-same n (Err r) (Ok b) p q = absurd (true≢false (ap is_refused p))
+answer-same n (Err r) (Err s) p q = ap Err (ap reason p)
 
 -- what `push` and `push_few` answer and leave
-pub pushed-same : (n : ℕ) (r s : Pushed) (es fs : List Scored) → left (verdict_in r) (as_lent (length_in n r) es) ≡ left (verdict_in s) (as_lent (length_in n s) fs) → (r ≡ s) × (es ≡ fs)
+pub pushed-same : (n : ℕ) (r s : Result ℕ Refusal) (es fs : List Scored) → left (verdict_in r) (as_lent (length_in n r) es) ≡ left (verdict_in s) (as_lent (length_in n s) fs) → (r ≡ s) × (es ≡ fs)
 pushed-same n r s es fs h =
     let l = settled_same (length_in n r) (length_in n s) es fs (ap (λ x. x.list) h) in
     (answer-same n r s (ap (λ x. x.verdict) h) l.0, l.1)

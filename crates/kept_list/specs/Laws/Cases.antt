@@ -1,7 +1,6 @@
 -- Small lists, worked out.
-use Rattle.std.specs.Prelude.{ℕ, ◌≡◌, refl, true, false, [], ◌∷◌, pos, Float}
+use Rattle.std.specs.Prelude.{ℕ, ◌≡◌, refl, true, false, [], ◌∷◌, pos, Float, Ok}
 use Rattle.std.specs.Float.{fin, inf, nan}
-use Rattle.refusal.specs.declared.Verdict.TheVariants.{Accepted}
 use Rattle.refusal.specs.Refusals.{verdict_number}
 use Rattle.float32.specs.Key.{key_of}
 use Rattle.kept_list.specs.declared.Scored.{Scored}
@@ -28,8 +27,8 @@ abbrev -zero : Float
 -- a full list: an equal score with a smaller packed number replaces the worst entry, one with a greater number does not; what lies past
 -- the entries stays. Document 01's page on pushes stands in worked_cases/Pages
 pub record Ties : Type 0 where
-  pub smaller_packed : pushed 1 (scored 3 four) (lent 1 (5 ∷ 9 ∷ []) (four ∷ nan ∷ [])) ≡ left Accepted (lent 1 (3 ∷ 9 ∷ []) (four ∷ nan ∷ []))
-  pub greater_packed : pushed 1 (scored 7 four) (lent 1 (5 ∷ 9 ∷ []) (four ∷ nan ∷ [])) ≡ left Accepted (lent 1 (5 ∷ 9 ∷ []) (four ∷ nan ∷ []))
+  pub smaller_packed : pushed 1 (scored 3 four) (lent 1 (5 ∷ 9 ∷ []) (four ∷ nan ∷ [])) ≡ left (Ok tt) (lent 1 (3 ∷ 9 ∷ []) (four ∷ nan ∷ []))
+  pub greater_packed : pushed 1 (scored 7 four) (lent 1 (5 ∷ 9 ∷ []) (four ∷ nan ∷ [])) ≡ left (Ok tt) (lent 1 (5 ∷ 9 ∷ []) (four ∷ nan ∷ []))
 
 pub ties : Ties
 unfolding key_of better settled well_kept verdict_of pushed

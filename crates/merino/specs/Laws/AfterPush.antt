@@ -1,10 +1,9 @@
 -- Laws of AfterPush: from the contract of `merino_push` and its number alone to what it kept, or to NotKept.
+use Rattle.refusal.specs.declared.Refusal.{Refusal}
 use Prim.Native.Nat.{ℕ, suc}
 use Rattle.std.proofs.Common.{arith, sym, ◌∙◌, subst}
-use Rattle.std.specs.Prelude.{◌≡◌}
+use Rattle.std.specs.Prelude.{◌≡◌, Result, Ok, Err}
 use Rattle.std.proofs.Math.Path.{refl, ap}
-use Rattle.refusal.specs.declared.Verdict.{Verdict}
-use Rattle.refusal.specs.declared.Verdict.TheVariants.{Accepted, Refused}
 use Rattle.refusal.specs.Refusals.{verdict_number}
 use Rattle.refusal.specs.Laws.First.{first-fault}
 use Rattle.kept_list.specs.declared.Scored.{Scored}
@@ -26,9 +25,9 @@ module _ (k : ℕ) (e : Scored) (l m : Lent) where
       answers : suc n ≡ verdict_number (pushed k e l).verdict
       answers = ap (λ (x : Crossed). x.number) h
 
-      go : (v : Verdict) → (pushed k e l).verdict ≡ v → NotKept k e l m (suc n)
-      go Accepted a = let z : suc n ≡ 0 = answers ∙ ap verdict_number a in absurd (omega arith)
-      go (Refused r) a = record {
+      go : (v : Result (Unit {0}) Refusal) → (pushed k e l).verdict ≡ v → NotKept k e l m (suc n)
+      go (Ok _) a = let z : suc n ≡ 0 = answers ∙ ap verdict_number a in absurd (omega arith)
+      go (Err r) a = record {
         reason = r;
         number = answers ∙ ap verdict_number a;
         first = first-fault (tests k e l) r a;

@@ -14,8 +14,8 @@ loop-value-preserved c =
     let values = c.args.values.now in
     let i = c.loop-value.value-index in
     let inv = c.loop-value.invariant in
-    let low : c.smaller_u32-low.result ≡ min c.loop-value.low (key_of (get_or values i nan)) = c.smaller_u32-low.ensures ∙ ap (min c.loop-value.low) c.key-k.ensures in
-    let high : c.greater_u32-high.result ≡ max c.loop-value.high (key_of (get_or values i nan)) = c.greater_u32-high.ensures ∙ ap (max c.loop-value.high) c.key-k.ensures in (
+    let low : c.min-low.result ≡ min c.loop-value.low (key_of (get_or values i nan)) = c.min-low.ensures ∙ ap (min c.loop-value.low) c.key-k.ensures in
+    let high : c.max-high.result ≡ max c.loop-value.high (key_of (get_or values i nan)) = c.max-high.ensures ∙ ap (max c.loop-value.high) c.key-k.ensures in (
       ap (λ k. lowest k (drop (i + 1) values)) low ∙ sym (lowest-more c.loop-value.low values i c.loop-value-test.true) ∙ inv.0,
       ap (λ k. highest k (drop (i + 1) values)) high ∙ sym (highest-more c.loop-value.high values i c.loop-value-test.true) ∙ inv.1,
     )

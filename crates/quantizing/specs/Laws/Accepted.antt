@@ -1,10 +1,8 @@
 -- Laws of Accepted: what an answer of `quantize` with a summary says of the list and of the codes that it left.
-use Rattle.std.specs.Prelude.{◌≡◌, refl, Bool, true, false, ◌⊎◌, List, ◌++◌, ℕ, ◌≤◌, ◌<◌, length, drop, Float, Result}
+use Rattle.std.specs.Prelude.{◌≡◌, refl, Bool, true, false, ◌⊎◌, List, ◌++◌, ℕ, ◌≤◌, ◌<◌, length, drop, Float, Result, Ok, Err}
 use Rattle.std.proofs.Common.{sym, ap, ◌∙◌, true≢false, inr, arith, ltb-false}
 use Rattle.std.proofs.lemmas.Bool.{eqb-false, not-false}
 use Rattle.refusal.specs.declared.Refusal.{Refusal}
-use Rattle.refusal.specs.declared.Verdict.{Verdict}
-use Rattle.refusal.specs.declared.Verdict.TheVariants.{Accepted, Refused}
 use Rattle.refusal.specs.First.{first_of}
 use Rattle.refusal.specs.Laws.First.{faultless}
 use Rattle.sequences.specs.Lists.{every}
@@ -28,9 +26,9 @@ answered values lent codes answer low step e s = go (first_of (tests values lent
     positive : (n : ℕ) → (n ≡ 0 → ⊥) → 0 < n
     positive n h = omega arith
 
-    go : (v : Verdict) → first_of (tests values lent) ≡ v → left answer codes ≡ by v values lent → Answered values lent codes low step
-    go (Refused r) f e = absurd (let a = ap (λ (z : Left). in_numbers z.answer) e in let z : ◌≡◌ {A = Bool} true false = cc in true≢false z)
-    go Accepted f e =
+    go : (v : Result (Unit {0}) Refusal) → first_of (tests values lent) ≡ v → left answer codes ≡ by v values lent → Answered values lent codes low step
+    go (Err r) f e = absurd (let a = ap (λ (z : Left). in_numbers z.answer) e in let z : ◌≡◌ {A = Bool} true false = cc in true≢false z)
+    go (Ok tt) f e =
         let t = faultless (tests values lent) f in
         let a : ◌≡◌ {A = ℕ ⊎ (Float × Float)} (inr (low, step)) (inr (least values, step_for values)) = sym s ∙ ap (λ (z : Left). in_numbers z.answer) e in
         let p : ◌≡◌ {A = Float × Float} (low, step) (least values, step_for values) = cc in

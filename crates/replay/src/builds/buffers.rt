@@ -4,12 +4,13 @@ ghost use Rattle.build_meaning.specs.Building.{outputs, in_numbers};
 ghost use Rattle.build_small.specs.Short.{made};
 ghost use Rattle.replay.specs.Case.{sizes_held, numbers_held, entries_held, agreed};
 
-use build_meaning::BuildAnswer;
+use refusal::Refusal;
+use build_meaning::Result<BuiltSizes, Refusal>;
 use replay_expected::{same_bytes, same_floats, same_longs, same_shorts, same_words};
 use replay_words::words_of;
 
 // Whether the build was accepted, and as many numbers stand in front of the outputs as the original has.
-fn sizes(w: &[u32], answer: BuildAnswer) -> bool
+fn sizes(w: &[u32], answer: Result<BuiltSizes, Refusal>) -> bool
     ensures { result ≡ sizes_held w.now (in_numbers answer) }
 {
     let mut postings = 0u64;
@@ -62,7 +63,7 @@ fn entries(w: &[u32], ids: &[u16], codes: &[u8], minimums: &[f32], steps: &[f32]
 // Whether the build was accepted, and the outputs hold the original's results and past them what they held before.
 pub(crate) fn agreed(
     w: &[u32],
-    answer: BuildAnswer,
+    answer: Result<BuiltSizes, Refusal>,
     postings: &[u64; 64],
     offsets: &[u64; 64],
     components: &[u32; 32],

@@ -10,13 +10,13 @@ use Rattle.search.proofs.Fronts.{put-room, front_length}
 use Rattle.search.proofs.Tops.{few-blocks, as_many, refused-in-order, places-in-order, whole-in-order}
 use Rattle.search.proofs.sort_and_search.Goals as goal
 
-pub returns-in-Refused : goal.returns-in-Refused
-returns-in-Refused c =
+pub returns-in-Err : goal.returns-in-Err
+returns-in-Err c =
     let a = c.args in record {
       leaves = refused-in-order (question a.k a.factor (terms a.query_components.now a.query_values.now a.components.now a.values.now) a.postings.now a.block_offsets.now
           (arrays a.summary_components.now a.component_offsets.now a.summary_ids.now a.codes.now a.minimums.now a.steps.now))
           (lends (lent a.length.now a.packed.now a.scores.now) a.visits.now) a.block_scores.now a.block_order.now c.admit-verdict.result c.admit-verdict.ensures _
-          c.in-Refused.is;
+          c.in-Err.is;
       numbers = refl;
     }
 

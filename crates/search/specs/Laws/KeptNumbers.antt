@@ -1,6 +1,6 @@
 -- No score that an accepted search keeps is a NaN, whatever the slices hold: those it began with are numbers (12), and the page of each
 -- that was evaluated is in its bounds (14), as the query is (10).
-use Rattle.std.specs.Prelude.{ℕ, ◌≡◌, refl, Bool, true, false, not, ◌&&◌, cond, List, [], ◌∷◌, get_or, set, eqb, Float}
+use Rattle.std.specs.Prelude.{ℕ, ◌≡◌, refl, Bool, true, false, not, ◌&&◌, cond, List, [], ◌∷◌, get_or, set, eqb, Float, Ok}
 use Rattle.std.proofs.Common.{arith, sym, ap, ◌∙◌, subst}
 use Rattle.std.specs.Float.Ieee.{is_nan}
 use Rattle.std.proofs.lemmas.Bool.{not-false}
@@ -8,7 +8,6 @@ use Rattle.sequences.specs.Lists.{every}
 use Rattle.sequences.specs.Laws.Lists.{both}
 use Rattle.refusal.specs.declared.Refusal.{Refusal}
 use Rattle.refusal.specs.declared.Refusal.TheVariants.{PastTheTerms, WrongTerms}
-use Rattle.refusal.specs.declared.Verdict.TheVariants.{Accepted}
 use Rattle.refusal.specs.First.{first_of, Faultless}
 use Rattle.refusal.specs.Laws.First.{faultless}
 use Rattle.float32.specs.Laws.Tests.{is_true}
@@ -76,7 +75,7 @@ range-number t h p x e =
     subst (λ y. not (is_nan y) ≡ true) (sym d.is) (is_true (not (is_nan (dot (query_terms t) (range_terms t p)))) (page-score-number t.query_components t.query_values (in_range p t.components)
     (in_range p t.values) h d.holds))
 
-module _ (q : Question) (l : Lends) (b : Bool) (accepted : first_of (tests q l b) ≡ Accepted) where
+module _ (q : Question) (l : Lends) (b : Bool) (accepted : first_of (tests q l b) ≡ Ok tt) where
   faults : Faultless (tests q l b)
   faults = faultless (tests q l b) accepted
 

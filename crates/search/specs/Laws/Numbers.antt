@@ -1,6 +1,7 @@
 -- Laws of Numbers: no score that an accepted search leaves is a NaN. They ask only what every slice satisfies by its type: an f32 at each
 -- place of a slice of f32, a number below 256 at each place of a slice of bytes.
-use Rattle.std.specs.Prelude.{ℕ, suc, ◌≤◌, ◌<◌, ◌≡◌, Bool, not, ◌&&◌, length, get_or, take, drop, T, leb, ltb, Float}
+use Rattle.refusal.specs.declared.Refusal.{Refusal}
+use Rattle.std.specs.Prelude.{ℕ, suc, ◌≤◌, ◌<◌, ◌≡◌, Bool, not, ◌&&◌, length, get_or, take, drop, T, leb, ltb, Float, Result, Ok, Err}
 use Rattle.std.proofs.Common.{arith, sym, ap, ◌∙◌, take_all, take_at, leb-true}
 use Rattle.std.proofs.Math.Path.{refl, subst}
 use Rattle.std.proofs.Math.Bool.{true}
@@ -10,8 +11,6 @@ use Rattle.std.specs.Float.Ieee.{is_nan}
 use Rattle.std.proofs.lemmas.Bool.{not-false}
 use Rattle.sequences.specs.Lists.{EachOf, every, from}
 use Rattle.sequences.specs.Laws.Lists.{both}
-use Rattle.refusal.specs.declared.Verdict.{Verdict}
-use Rattle.refusal.specs.declared.Verdict.TheVariants as verdict
 use Rattle.refusal.specs.First.{first_of, Faultless}
 use Rattle.refusal.specs.Laws.First.{faultless}
 use Rattle.float32.specs.Laws.Tests.{is_true}
@@ -72,7 +71,7 @@ all-numbers [] h = refl
 all-numbers (x ∷ xs) h = both_true (not (is_nan x)) (numbers xs) (is_true (not (is_nan x)) (h 0 (omega arith))) (all-numbers xs (λ s l. h (suc s) (omega arith)))
 
 -- ---- an accepted search
-module _ (q : Question) (l : Lends) (b : Bool) (accepted : first_of (tests q l b) ≡ verdict.Accepted) where
+module _ (q : Question) (l : Lends) (b : Bool) (accepted : first_of (tests q l b) ≡ Ok tt) where
   faults : Faultless (tests q l b)
   faults = faultless (tests q l b) accepted
 
@@ -97,10 +96,10 @@ module _ (q : Question) (s : Slices q) (l : Lends) (xs : List Float) where
   unfolding searched
   searched-numbers f ys e = go (first_of (tests q l (score_places q xs))) refl e
     where
-      go : (v : Verdict) → first_of (tests q l (score_places q xs)) ≡ v → leaves f ys ≡ if_accepted v (leaves (laid q.terms l (swept q (from 0 (block_count q)) l)) (put_in (scores_for q) xs)) l xs
+      go : (v : Result (Unit {0}) Refusal) → first_of (tests q l (score_places q xs)) ≡ v → leaves f ys ≡ if_accepted v (leaves (laid q.terms l (swept q (from 0 (block_count q)) l)) (put_in (scores_for q) xs)) l xs
           → numbers_left f.answer (block_count q) ys f.lent.kept ≡ true
-      go (verdict.Refused r) h e = subst (λ z. numbers_left z (block_count q) ys f.lent.kept ≡ true) (sym (ap (λ (z : Searched). z.found.answer) e)) refl
-      go verdict.Accepted h e =
+      go (Err r) h e = subst (λ z. numbers_left z (block_count q) ys f.lent.kept ≡ true) (sym (ap (λ (z : Searched). z.found.answer) e)) refl
+      go (Ok tt) h e =
           numbers-left f.answer (block_count q) ys f.lent.kept
           (ap (λ (z : Searched). numbers (take (block_count q) z.block_scores)) e ∙ scores-numbers q l (score_places q xs) h s xs (leb-true (block_count q) (length xs) (roomy q l (score_places q xs)
           h).1.1))
@@ -110,11 +109,11 @@ module _ (q : Question) (s : Slices q) (l : Lends) (xs : List Float) where
   unfolding searched_in_order
   ordered-numbers bs f ys cs e = go (first_of (tests q l (order_places q xs bs))) refl e
     where
-      go : (v : Verdict) → first_of (tests q l (order_places q xs bs)) ≡ v
+      go : (v : Result (Unit {0}) Refusal) → first_of (tests q l (order_places q xs bs)) ≡ v
           → leaves_in_order f ys cs ≡ if_accepted_in_order v (leaves_in_order (laid q.terms l (swept q (by_score (scores_for q)) l)) (put_in (scores_for q) xs) (put_in (by_score (scores_for q)) bs)) l xs bs
           → numbers_left f.answer (block_count q) ys f.lent.kept ≡ true
-      go (verdict.Refused r) h e = subst (λ z. numbers_left z (block_count q) ys f.lent.kept ≡ true) (sym (ap (λ (z : SearchedInOrder). z.found.answer) e)) refl
-      go verdict.Accepted h e =
+      go (Err r) h e = subst (λ z. numbers_left z (block_count q) ys f.lent.kept ≡ true) (sym (ap (λ (z : SearchedInOrder). z.found.answer) e)) refl
+      go (Ok tt) h e =
           let p = both (score_places q xs) (leb (block_count q) (length bs)) (roomy q l (order_places q xs bs) h).1.1 in
           numbers-left f.answer (block_count q) ys f.lent.kept
           (ap (λ (z : SearchedInOrder). numbers (take (block_count q) z.block_scores)) e ∙ scores-numbers q l (order_places q xs bs) h s xs (leb-true (block_count q) (length xs) p.0))

@@ -1,11 +1,10 @@
 -- Laws of Promises: the skip test in plain words, that every accepted search keeps the promises, and what they say of the memory at exit.
-use Rattle.std.specs.Prelude.{ℕ, ◌+◌, ◌≤◌, ◌≡◌, Bool, true, false, ◌&&◌, List, [], ◌∷◌, ◌++◌, map, length, get_or, take, eqb, ltb, ◌↔◌, ◌⊎◌}
+use Rattle.std.specs.Prelude.{ℕ, ◌+◌, ◌≤◌, ◌≡◌, Bool, true, false, ◌&&◌, List, [], ◌∷◌, ◌++◌, map, length, get_or, take, eqb, ltb, ◌↔◌, ◌⊎◌, Ok}
 use Rattle.std.proofs.Common.{sym, ap, ◌∙◌, subst, append_assoc, length-take-le, eqb-true, eq-eqb, ltb-true, arith, inl, inr}
 use Rattle.std.specs.Float.{nan, binary32}
 use Rattle.std.specs.Float.Ieee.{lt, mul}
 use Rattle.std.proofs.lemmas.Bool.{not-false}
 use Rattle.sequences.specs.Laws.Lists.{both}
-use Rattle.refusal.specs.declared.Verdict.TheVariants.{Accepted}
 use Rattle.refusal.specs.First.{first_of, Faultless}
 use Rattle.refusal.specs.Laws.First.{faultless}
 use Rattle.kept_list.specs.Lent.{entries, places}
@@ -108,7 +107,7 @@ module _ (g : Given) (bs : List ℕ) (s : State) (sorted : in_order better s.kep
   }
 
 -- an accepted search keeps all of this, in whatever order its blocks have their turns
-module _ (q : Question) (l : Lends) (b : Bool) (accepted : first_of (tests q l b) ≡ Accepted) where
+module _ (q : Question) (l : Lends) (b : Bool) (accepted : first_of (tests q l b) ≡ Ok tt) where
   faults : Faultless (tests q l b)
   faults = faultless (tests q l b) accepted
 

@@ -1,10 +1,9 @@
 -- The scores of an accepted search are sums from +0 over the query's components, and never a NaN: of blocks, where the stored arrays are
 -- f32 and bytes as their types say, and of pages, whatever they hold.
-use Rattle.std.specs.Prelude.{ℕ, ◌<◌, ◌≡◌, Bool, true, not, List, length, T, Float}
+use Rattle.std.specs.Prelude.{ℕ, ◌<◌, ◌≡◌, Bool, true, not, List, length, T, Float, Ok}
 use Rattle.std.proofs.Common.{arith}
 use Rattle.std.specs.Float.Ieee.{is_nan}
 use Rattle.std.proofs.lemmas.Bool.{not-false}
-use Rattle.refusal.specs.declared.Verdict.TheVariants.{Accepted}
 use Rattle.refusal.specs.First.{first_of}
 use Rattle.refusal.specs.Laws.First.{faultless}
 use Rattle.documents.specs.Documents.{paired, dot}
@@ -21,7 +20,7 @@ use Rattle.search.specs.Searched.{Question, block_count, scores_for, tests}
 use Rattle.search.specs.Dots.{query_terms}
 
 -- ---- the score of a block
-module _ (q : Question) (l : Lends) (b : Bool) (accepted : first_of (tests q l b) ≡ Accepted) (typed : Typed q.layout (query_terms q.terms)) (s : ℕ) (below : s < block_count q) where
+module _ (q : Question) (l : Lends) (b : Bool) (accepted : first_of (tests q l b) ≡ Ok tt) (typed : Typed q.layout (query_terms q.terms)) (s : ℕ) (below : s < block_count q) where
   own : well_formed (length q.postings) q.block_offsets q.layout ≡ true
   own = not-false (well_formed (length q.postings) q.block_offsets q.layout) (faultless (tests q l b) accepted).1.1.1.0
 

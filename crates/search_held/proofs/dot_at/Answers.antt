@@ -4,4 +4,4 @@ use Rattle.search_held.proofs.dot_at.Goals as goal
 
 pub returns : goal.returns
 unfolding div of_bits
-returns c = c.at_f32.ensures
+returns c = c.at.ensures

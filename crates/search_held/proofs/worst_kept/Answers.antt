@@ -9,4 +9,4 @@ returns-then-length-eq0 c = let a = c.args in worst-none a.length a.scores.now c
 
 pub returns : goal.returns
 unfolding div of_bits
-returns c = let a = c.args in worst-some a.length a.scores.now c.at_f32.result c.if-length-eq0.false c.at_f32.ensures
+returns c = let a = c.args in worst-some a.length a.scores.now c.at.result c.if-length-eq0.false c.at.ensures

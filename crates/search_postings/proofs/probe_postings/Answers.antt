@@ -15,7 +15,7 @@ loop-i-init c = (refl, refl, refl, refl)
 
 pub loop-i-smaller : goal.loop-i-smaller
 loop-i-smaller c =
-    let stop = c.shorter-stop.result in
+    let stop = c.min-stop.result in
     let z = leads-on stop c.loop-i.i c.step_on-s.result _ _ c.in-On.is c.step_on-s.ensures.further in omega (arith, z, c.loop-i-test.true)
 
 pub loop-i-preserved : goal.loop-i-preserved
@@ -25,25 +25,25 @@ loop-i-preserved c = (
   search rules,
   let a = c.args in
       rest-on a.k (through_table a.table.now a.sieve.now a.query_components.now a.query_values.now a.components.now a.values.now) a.postings.now
-      c.shorter-stop.result c.step_on-s.result _ _ c.step_on-s.ensures.turned _ _ c.in-On.is ∙ c.loop-i.invariant.3,
+      c.min-stop.result c.step_on-s.result _ _ c.step_on-s.ensures.turned _ _ c.in-On.is ∙ c.loop-i.invariant.3,
 )
 
 pub returns-in-Stopped : goal.returns-in-Stopped
 returns-in-Stopped c =
     let a = c.args in
     rest-stop a.k (through_table a.table.now a.sieve.now a.query_components.now a.query_values.now a.components.now a.values.now) a.postings.now
-    c.shorter-stop.result c.step_on-s.result _ _ c.step_on-s.ensures.turned _ _ c.in-Stopped.is ∙ c.loop-i.invariant.3
+    c.min-stop.result c.step_on-s.result _ _ c.step_on-s.ensures.turned _ _ c.in-Stopped.is ∙ c.loop-i.invariant.3
     ∙ ap (λ e. held_probe a.k (through_table a.table.now a.sieve.now a.query_components.now a.query_values.now a.components.now a.values.now)
     a.postings.now (from a.first (e - a.first)) a.counts (lends (lent a.length.now a.packed.now a.scores.now) a.visits.now))
-    c.shorter-stop.ensures
+    c.min-stop.ensures
 
 pub returns : goal.returns
 returns c =
     let l = c.loop-i in
     let a = c.args in
     probe-end a.k (through_table a.table.now a.sieve.now a.query_components.now a.query_values.now a.components.now a.values.now) a.postings.now
-    l.i c.shorter-stop.result l.c
+    l.i c.min-stop.result l.c
     (lends (lent l.length l.packed l.scores) l.visits) c.loop-i-test.false ∙ l.invariant.3 ∙ ap
     (λ e. held_probe a.k (through_table a.table.now a.sieve.now a.query_components.now a.query_values.now a.components.now a.values.now)
     a.postings.now (from a.first (e - a.first)) a.counts (lends (lent a.length.now a.packed.now a.scores.now)
-    a.visits.now)) c.shorter-stop.ensures
+    a.visits.now)) c.min-stop.ensures

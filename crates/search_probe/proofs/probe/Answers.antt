@@ -6,12 +6,12 @@ use Rattle.search_probe.proofs.Probes.{refused-is, laid_out, bytes-are, one-more
 use native.Mathlib.Omega.{arith}
 use Rattle.search_probe.proofs.probe.Goals as goal
 
-pub returns-in-Refused : goal.returns-in-Refused
-returns-in-Refused c =
+pub returns-in-Err : goal.returns-in-Err
+returns-in-Err c =
     let a = c.args in
     refused-is a.k (terms a.query_components.now a.query_values.now a.components.now a.values.now)
     (lends (lent a.length.now a.packed.now a.scores.now) a.visits.now) c.admit-verdict.result c.admit-verdict.ensures a.factor a.postings.now
-    a.block_offsets.now a.block_scores.now (listed a.block_order.now a.turns) _ c.in-Refused.is
+    a.block_offsets.now a.block_scores.now (listed a.block_order.now a.turns) _ c.in-Err.is
 
 pub slice_bounds-sweep-end : goal.slice_bounds-sweep-end
 slice_bounds-sweep-end c =

@@ -1,11 +1,9 @@
 -- Laws of Ended: from the contract of a search and its answer to all that is promised.
-use Rattle.std.specs.Prelude.{ℕ, ◌≡◌, refl, Bool, List, Float}
+use Rattle.std.specs.Prelude.{ℕ, ◌≡◌, refl, Bool, List, Float, Result, Ok, Err}
 use Rattle.std.proofs.Common.{arith, sym, ap, ◌∙◌}
 use Rattle.std.proofs.Math.Path.{subst}
 use Rattle.sequences.specs.Lists.{from}
 use Rattle.refusal.specs.declared.Refusal.{Refusal}
-use Rattle.refusal.specs.declared.Verdict.{Verdict}
-use Rattle.refusal.specs.declared.Verdict.TheVariants as verdict
 use Rattle.refusal.specs.First.{first_of}
 use Rattle.refusal.specs.Laws.First.{first-fault}
 use Rattle.sparse_scores.specs.Scores.{put_in}
@@ -21,7 +19,7 @@ use Rattle.search_promises.specs.Laws.Ran.{ran}
 use Rattle.search_promises.specs.Ended.{Ended, Halted, Refused, Follows, left_in}
 
 module _ (q : Question) (l : Lends) (blocks : List ℕ) (places : Bool) where
-  accepted-follows : first_of (tests q l places) ≡ verdict.Accepted → Follows q l blocks places (laid q.terms l (swept q blocks l)).lent (laid q.terms l (swept q blocks l)).answer
+  accepted-follows : first_of (tests q l places) ≡ Ok tt → Follows q l blocks places (laid q.terms l (swept q blocks l)).lent (laid q.terms l (swept q blocks l)).answer
   accepted-follows a = go (swept q blocks l) refl
     where
       runs : Ran q l blocks (laid q.terms l (swept q blocks l)).lent
@@ -57,11 +55,11 @@ module _ (q : Question) (l : Lends) (xs : List Float) where
       written (goes_on t) = refl
       written (stops_at r i t) = refl
 
-      go : (v : Verdict) → first_of (tests q l (score_places q xs)) ≡ v
+      go : (v : Result (Unit {0}) Refusal) → first_of (tests q l (score_places q xs)) ≡ v
           → Follows q l (from 0 (block_count q)) (score_places q xs) (if_accepted v done l xs).found.lent (if_accepted v done l xs).found.answer × ((if_accepted v done l xs).block_scores
           ≡ left_in (if_accepted v done l xs).found.answer (scores_for q) xs)
-      go verdict.Accepted a = (accepted-follows q l (from 0 (block_count q)) (score_places q xs) a, written (swept q (from 0 (block_count q)) l))
-      go (verdict.Refused r) a = (record { fault = first-fault (tests q l (score_places q xs)) r a; unchanged = refl }, refl)
+      go (Ok _) a = (accepted-follows q l (from 0 (block_count q)) (score_places q xs) a, written (swept q (from 0 (block_count q)) l))
+      go (Err r) a = (record { fault = first-fault (tests q l (score_places q xs)) r a; unchanged = refl }, refl)
 
   pub search-ended : (f : Left) (ys : List Float) (n e m : ℕ) → leaves f ys ≡ searched q l xs → f.answer ≡ answer.Found n e m → Ended q l (from 0 (block_count q)) f.lent n e m
       × (ys ≡ put_in (scores_for q) xs)
@@ -91,16 +89,16 @@ module _ (q : Question) (l : Lends) (xs : List Float) (bs : List ℕ) where
       written result buffer (goes_on t) = refl
       written result buffer (stops_at r i t) = refl
 
-      go : (v : Verdict) → first_of (tests q l (order_places q xs bs)) ≡ v
+      go : (v : Result (Unit {0}) Refusal) → first_of (tests q l (order_places q xs bs)) ≡ v
           → Sorted (if_accepted_in_order v done l xs bs).found.lent (if_accepted_in_order v done l xs bs).block_scores (if_accepted_in_order v done l xs bs).block_order
           (if_accepted_in_order v done l xs bs).found.answer
-      go verdict.Accepted a = (
+      go (Ok _) a = (
         accepted-follows q l (by_score (scores_for q)) (order_places q xs bs) a,
         written (scores_for q) xs (swept q (by_score (scores_for q)) l),
         written (by_score (scores_for q)) bs
             (swept q (by_score (scores_for q)) l),
       )
-      go (verdict.Refused r) a = (record { fault = first-fault (tests q l (order_places q xs bs)) r a; unchanged = refl }, refl, refl)
+      go (Err r) a = (record { fault = first-fault (tests q l (order_places q xs bs)) r a; unchanged = refl }, refl, refl)
 
   pub sorted-ended : (f : Left) (ys : List Float) (cs : List ℕ) (n e m : ℕ) → leaves_in_order f ys cs ≡ searched_in_order q l xs bs → f.answer ≡ answer.Found n e m
       → Ended q l (by_score (scores_for q)) f.lent n e m × (ys ≡ put_in (scores_for q) xs) × (cs ≡ put_in (by_score (scores_for q)) bs)

@@ -1,11 +1,10 @@
 -- Laws of Ran: every accepted search has it, and the next one finds all that it needs.
-use Rattle.std.specs.Prelude.{ℕ, ◌+◌, ◌≤◌, ◌≡◌, Bool, true, not, ◌&&◌, List, ◌++◌, map, length, take, drop, leb, ltb, eqb}
+use Rattle.std.specs.Prelude.{ℕ, ◌+◌, ◌≤◌, ◌≡◌, Bool, true, not, ◌&&◌, List, ◌++◌, map, length, take, drop, leb, ltb, eqb, Ok}
 use Rattle.std.proofs.Common.{arith, sym, ap, ◌∙◌, subst, length-append, length-drop, take_at, length-take-le, leb-true, ltb-true, le-leb}
 use Rattle.std.proofs.lemmas.List.{length-map}
 use Rattle.std.proofs.lemmas.Bool.{not-false}
 use Rattle.sequences.specs.Lists.{every}
 use Rattle.sequences.specs.Laws.Lists.{both}
-use Rattle.refusal.specs.declared.Verdict.TheVariants.{Accepted}
 use Rattle.refusal.specs.First.{first_of, Faultless}
 use Rattle.refusal.specs.Laws.First.{faultless, accepted-by}
 use Rattle.documents.specs.Checks.{slices_hold}
@@ -32,7 +31,7 @@ use Rattle.search.specs.Laws.Numbers.{roomy}
 use Rattle.search_promises.specs.Ran.{Ran}
 use Rattle.search_probe.specs.Laws.Laid.{laid-list}
 
-module _ (q : Question) (l : Lends) (b : Bool) (accepted : first_of (tests q l b) ≡ Accepted) (blocks : List ℕ) where
+module _ (q : Question) (l : Lends) (b : Bool) (accepted : first_of (tests q l b) ≡ Ok tt) (blocks : List ℕ) where
   faults : Faultless (tests q l b)
   faults = faultless (tests q l b) accepted
 
@@ -94,7 +93,7 @@ module _ (q : Question) (l : Lends) (b : Bool) (accepted : first_of (tests q l b
       let k = laid-list q.terms l (swept q blocks l) in
       let v = visits-at-exit q l b accepted blocks in
       record {
-        accepted = subst (λ c. first_of (tests q l c) ≡ Accepted) (roomy q l b accepted).1.1 accepted;
+        accepted = subst (λ c. first_of (tests q l c) ≡ Ok tt) (roomy q l b accepted).1.1 accepted;
         promises = promises;
         kept_is = k;
         visits_is = v;
@@ -109,7 +108,7 @@ module _ (q : Question) (l : Lends) (b : Bool) (accepted : first_of (tests q l b
 -- (9) and it has places for its blocks (4)
 pub accepted-again : (q : Question) (l : Lends) (blocks : List ℕ) (x : Lends) → Ran q l blocks x
     → (r : Question) → r.k ≡ q.k → r.terms.components ≡ q.terms.components → r.terms.values ≡ q.terms.values → slices_hold r.terms.query_components r.terms.query_values ≡ true
-    → well_formed (length r.postings) r.block_offsets r.layout ≡ true → first_of (tests r x true) ≡ Accepted
+    → well_formed (length r.postings) r.block_offsets r.layout ≡ true → first_of (tests r x true) ≡ Ok tt
 accepted-again q l blocks x R r k c v h w =
     let f = faultless (tests q l true) R.accepted in
     accepted-by (tests r x true) (

@@ -5,4 +5,4 @@ use lib.Dec.{eqb}
 use Rattle.search_steps.proofs.is_visited.Goals as goal
 
 pub returns : goal.returns
-returns c = ap (λ b. not (eqb b 0)) c.at_u8.ensures
+returns c = ap (λ b. not (eqb b 0)) c.at.ensures

@@ -17,7 +17,7 @@ loop-c-preserved c =
     let pair = Zip-more l.c-iterator c.next.new.self _ (c.in-Some.c, c.in-Some.value) c.in-Some.is c.next.ensures.steps in (
       search rules,
       c.next_place-place.ensures,
-      query-turn c.shorter-n.result (arrays a.summary_components.now a.component_offsets.now a.summary_ids.now a.codes.now a.minimums.now a.steps.now)
+      query-turn c.min-n.result (arrays a.summary_components.now a.component_offsets.now a.summary_ids.now a.codes.now a.minimums.now a.steps.now)
           a.summary_components.now c.in-Some.c.now c.in-Some.value.now _ _ _ _ c.next_place-place.result l.block_scores _ pair.0 pair.1 refl
           c.next_place-place.ensures c.add_term.ensures ∙ l.invariant.2,
     )
@@ -30,6 +30,6 @@ returns c =
     let a = c.args in
     let l = c.loop-c in
     let all = arrays a.summary_components.now a.component_offsets.now a.summary_ids.now a.codes.now a.minimums.now a.steps.now in
-    all-scored a.query_components.now a.query_values.now all c.shorter-n.result c.shorter.result a.block_scores.now c.clear.new.block_scores
-    l.block_scores c.shorter.ensures c.shorter-n.ensures c.clear.ensures
-    (sym (query-end c.shorter-n.result all _ _ l.block_scores (either_empty_from_Zip _ c.next.new.self _ c.in-None.is c.next.ensures.steps)) ∙ l.invariant.2)
+    all-scored a.query_components.now a.query_values.now all c.min-n.result c.shorter.result a.block_scores.now c.clear.new.block_scores
+    l.block_scores c.shorter.ensures c.min-n.ensures c.clear.ensures
+    (sym (query-end c.min-n.result all _ _ l.block_scores (either_empty_from_Zip _ c.next.new.self _ c.in-None.is c.next.ensures.steps)) ∙ l.invariant.2)

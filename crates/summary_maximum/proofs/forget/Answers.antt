@@ -13,7 +13,7 @@ loop-key-preserved c =
     let l = c.loop-key in
     let a = c.args in
     fold_step (λ (l : List ℕ) k. set l (component_of k) 0) l.places _ _ 0 a.keys.now l.key-index c.loop-key-test.true
-    l.invariant (c.put_u64.ensures ∙ ap (λ k. set l.places k 0) c.component_of_term_key-component.ensures)
+    l.invariant (c.put.ensures ∙ ap (λ k. set l.places k 0) c.component_of_term_key-component.ensures)
 
 pub returns : goal.returns
 returns c =

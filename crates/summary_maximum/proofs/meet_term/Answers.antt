@@ -9,15 +9,15 @@ returns-then-limit-c c =
 
 pub returns-then-stands_at : goal.returns-then-stands_at
 returns-then-stands_at c =
-    let a = c.args in met-below a.limit (met a.count a.keys.now a.places.now a.maxima.now) _ a.component a.value c.if-limit-c.false (meets-raised a.count a.keys.now a.places.now a.maxima.now a.component a.value c.at_u64-place.result
-    c.stands_at.result c.at_u64-place.ensures c.stands_at.ensures _ c.if-stands_at.true c.raise.ensures)
+    let a = c.args in met-below a.limit (met a.count a.keys.now a.places.now a.maxima.now) _ a.component a.value c.if-limit-c.false (meets-raised a.count a.keys.now a.places.now a.maxima.now a.component a.value c.at-place.result
+    c.stands_at.result c.at-place.ensures c.stands_at.ensures _ c.if-stands_at.true c.raise.ensures)
 
 pub returns-then-count-keys : goal.returns-then-count-keys
 returns-then-count-keys c =
     let a = c.args in met-below a.limit (met a.count a.keys.now a.places.now a.maxima.now) _ a.component a.value c.if-limit-c.false (meets-added a.count a.keys.now a.places.now a.maxima.now a.component a.value
-    c.at_u64-place.result c.stands_at.result c.at_u64-place.ensures c.stands_at.ensures _ _ c.if-stands_at.false c.if-count-keys.true c.put_u64.ensures c.put_f32.ensures)
+    c.at-place.result c.stands_at.result c.at-place.ensures c.stands_at.ensures _ _ c.if-stands_at.false c.if-count-keys.true c.put.ensures c.put-2.ensures)
 
 pub returns : goal.returns
 returns c =
-    let a = c.args in met-below a.limit (met a.count a.keys.now a.places.now a.maxima.now) _ a.component a.value c.if-limit-c.false (meets-full a.count a.keys.now a.places.now a.maxima.now a.component a.value c.at_u64-place.result c.stands_at.result c.at_u64-place.ensures
+    let a = c.args in met-below a.limit (met a.count a.keys.now a.places.now a.maxima.now) _ a.component a.value c.if-limit-c.false (meets-full a.count a.keys.now a.places.now a.maxima.now a.component a.value c.at-place.result c.stands_at.result c.at-place.ensures
     c.stands_at.ensures c.if-stands_at.false c.if-count-keys.false)

@@ -5,4 +5,4 @@ use Rattle.summary_terms.proofs.finish.Goals as goal
 
 pub returns : goal.returns
 returns c =
-    record { keys_are = c.sort.ensures ∙ ap sorted c.join_keys.ensures; places_are = c.forget.ensures; maxima_are = c.clear_f32.ensures; answer = c.kept_of.ensures }
+    record { keys_are = c.sort.ensures ∙ ap sorted c.join_keys.ensures; places_are = c.forget.ensures; maxima_are = c.clear.ensures; answer = c.kept_of.ensures }

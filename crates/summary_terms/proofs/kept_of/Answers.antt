@@ -4,7 +4,7 @@ use Rattle.summary_terms.proofs.kept_of.Goals as goal
 
 pub returns-in-FixedSize : goal.returns-in-FixedSize
 returns-in-FixedSize c =
-    kept_fixed c.args.strategy c.args.keys.now _ c.shorter.result c.in-FixedSize.is c.shorter.ensures
+    kept_fixed c.args.strategy c.args.keys.now _ c.min.result c.in-FixedSize.is c.min.ensures
 
 pub returns-in-EnergyPreserving : goal.returns-in-EnergyPreserving
 returns-in-EnergyPreserving c =
