@@ -139,13 +139,10 @@ pub fn make(
         (scratches order.old blocks.old sorted.old known.old taken.old counts.old
         starts.old slots.old weights.old sums.old keys.old) }
 {
-    let verdict = build_ready::ready(
+    build_ready::ready(
         dimension, blocking, offsets, components, values, ids, centroids, order, blocks, sorted,
         known, taken, counts, starts, slots, weights, sums, keys,
-    );
-    if let Err(reason) = verdict {
-        return Err(reason);
-    }
+    )?;
     match blocking {
         BlockingStrategy::FixedSize { block_size } => Ok(cut(
             block_size, ids, order, blocks,

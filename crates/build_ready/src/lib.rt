@@ -30,12 +30,9 @@ fn judge(
         ++ ((not (scratch_suffices (shown (scratch_needs (sizes_for dimension blocking (documents offsets.now components.now values.now) ids.now
         centroids.now))) lent) gives BufferTooShort) ∷ [])) }
 {
-    let verdict = build_admission::admitted(
+    build_admission::admitted(
         dimension, blocking, offsets, components, values, ids, centroids,
-    );
-    if let Err(reason) = verdict {
-        return Err(reason);
-    }
+    )?;
     let needed = build_scratch::scratch_needs(
         dimension, blocking, offsets, components, values, ids, centroids,
     );

@@ -106,17 +106,14 @@ pub fn measure(
         blocks.now (counting keys.old places.old maxima.old entry_counts.old minimums.old
         steps.old) store.old }
 {
-    let verdict = judge_work(
+    judge_work(
         dimension,
         blocks.len(),
         keys.len(),
         places.len(),
         maxima.len(),
         entry_counts.len(),
-    );
-    if let Err(reason) = verdict {
-        return Err(reason);
-    }
+    )?;
     let n = dimension as usize;
     let full = build_count_pass::count(
         dimension,

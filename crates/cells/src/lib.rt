@@ -7,7 +7,11 @@ ghost use Rattle.std.specs.Prelude.{◌≡◌, get_or, set};
 pub fn at<T: Copy>(cells: &[T], place: usize, rest: T) -> T
     ensures { result ≡ get_or cells.now place rest }
 {
-    if place < cells.len() { cells[place] } else { rest }
+    if place < cells.len() {
+        cells[place]
+    } else {
+        rest
+    }
 }
 
 // Stores at a place; nothing past the end.

@@ -55,20 +55,3 @@ module _ (k n : ℕ) (e : Scored) (ys : List Scored) where
   pub verdict-is : (sound : Bool) → sound ≡ well_kept k (as_lent n ys) → verdict_by k n (length ys) sound e ≡ verdict_of k e (as_lent n ys)
   unfolding verdict_by verdict_of
   verdict-is sound h = rw (h, room-is (min (suc n) k))
-
-  -- ---- what a push leaves
-  module _ (v : Result (Unit {0}) Refusal) (a : v ≡ verdict_of k e (as_lent n ys)) where
-    pub refused : is_refused v ≡ true → left (verdict_in (answer_of v n)) (as_lent (length_in n (answer_of v n)) ys) ≡ pushed k e (as_lent n ys)
-    refused h = go v a h
-      where
-        go : (v : Result (Unit {0}) Refusal) → v ≡ verdict_of k e (as_lent n ys) → is_refused v ≡ true → left (verdict_in (answer_of v n)) (as_lent (length_in n (answer_of v n)) ys) ≡ pushed k e (as_lent n ys)
-        go (Ok _) a h = absurd (true≢false (sym h))
-        go (Err r) a h = refused-leaves k e (as_lent n ys) (Err r) a r refl
-
-    pub accepted : is_refused v ≡ false → (m : ℕ) (zs : List Scored) → as_lent m zs ≡ settled k e (as_lent n ys)
-        → left (verdict_in (answer_of v m)) (as_lent (length_in n (answer_of v m)) zs) ≡ pushed k e (as_lent n ys)
-    accepted h m zs s = go v a h
-      where
-        go : (v : Result (Unit {0}) Refusal) → v ≡ verdict_of k e (as_lent n ys) → is_refused v ≡ false → left (verdict_in (answer_of v m)) (as_lent (length_in n (answer_of v m)) zs) ≡ pushed k e (as_lent n ys)
-        go (Ok _) a h = accepted-leaves k e (as_lent n ys) (Ok tt) a refl (as_lent m zs) s
-        go (Err r) a h = absurd (true≢false h)

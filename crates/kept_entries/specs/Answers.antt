@@ -16,11 +16,6 @@ abbrev pub is_refused : Result (Unit {0}) Refusal → Bool
 is_refused (Ok _) = false
 is_refused (Err r) = true
 
--- the answer that goes with a verdict, where an accepted push leaves n entries
-abbrev pub answer_of : Result (Unit {0}) Refusal → ℕ → Result ℕ Refusal
-answer_of (Ok _) n = Ok n
-answer_of (Err r) n = Err r
-
 -- the verdict that an answer gives, and how many entries there are after it where there were n before
 abbrev pub verdict_in : Result ℕ Refusal → Result (Unit {0}) Refusal
 verdict_in (Ok n) = Ok tt

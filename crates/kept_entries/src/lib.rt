@@ -5,7 +5,7 @@ ghost use Rattle.std.specs.Prelude.{◌≡◌, ◌<◌, ◌-◌, ◌+◌, min, l
 ghost use Rattle.kept_list.specs.Lent.{inserted, settled};
 ghost use Rattle.kept_list.specs.Push.{well_kept, left, pushed};
 ghost use Rattle.kept_entries.specs.Entries.{no_entry, as_lent, goes_in};
-ghost use Rattle.kept_entries.specs.Answers.{verdict_by, is_refused, answer_of, verdict_in, length_in};
+ghost use Rattle.kept_entries.specs.Answers.{verdict_by, verdict_in, length_in};
 
 use kept_list::Scored;
 use refusal::Refusal;
@@ -126,26 +126,6 @@ fn admit(k: u64, length: u64, room: usize, sound: bool, e: Scored) -> Result<(),
     Ok(())
 }
 
-// Whether a verdict is a refusal.
-fn is_refused(verdict: Result<(), Refusal>) -> bool
-    ensures { result ≡ is_refused verdict }
-{
-    match verdict {
-        Ok(()) => false,
-        Err(_) => true,
-    }
-}
-
-// The answer that goes with a verdict, where an accepted push leaves so many entries.
-fn answer(verdict: Result<(), Refusal>, length: u64) -> Result<u64, Refusal>
-    ensures { result ≡ answer_of verdict length }
-{
-    match verdict {
-        Ok(()) => Ok(length),
-        Err(reason) => Err(reason),
-    }
-}
-
 // A push onto the first `length` entries. Refused with 11 where k is 0; with 12 where the kept entries number more than k or than
 // the slice holds, are out of order, or they or the pushed score hold a NaN; with 4 where the slice has no place for the result.
 // A refused push changes nothing.
@@ -154,12 +134,8 @@ pub fn push(k: u64, length: u64, entries: &mut [Scored], e: Scored) -> Result<u6
 {
     let room = entries.len();
     let sound = is_well_kept(k, length, entries);
-    let verdict = admit(k, length, room, sound, e);
-    if is_refused(verdict) {
-        return answer(verdict, length);
-    }
-    let kept = settle(k, length, entries, e);
-    answer(verdict, kept)
+    admit(k, length, room, sound, e)?;
+    Ok(settle(k, length, entries, e))
 }
 
 // What a push onto an array of entries leaves: its answer, and the entries.

@@ -116,7 +116,13 @@ fn admit(k: u64, length: u64, packed: &[u64], scores: &[f32], e: Scored) -> Resu
 // A push onto the kept list. Refused with 11 where k is 0; with 12 where the kept entries number more than k or than the
 // buffers hold, are out of order, or they or the pushed score hold a NaN; with 4 where a buffer has no place for the result.
 // A refused push changes nothing.
-pub fn push(k: u64, length: &mut u64, packed: &mut [u64], scores: &mut [f32], e: Scored) -> Result<(), Refusal>
+pub fn push(
+    k: u64,
+    length: &mut u64,
+    packed: &mut [u64],
+    scores: &mut [f32],
+    e: Scored,
+) -> Result<(), Refusal>
     ensures { left result (lent length.new packed.new scores.new)
         ≡ pushed k e (lent length.old packed.old scores.old) }
 {

@@ -3,193 +3,195 @@ use mathlib.Core.Path.{◌∙◌}
 use Rattle.documents.specs.Documents.{documents}
 use Rattle.build_meaning.specs.Building.{scratches}
 use Rattle.build_blocks.proofs.Making.{refused-made, cut_fits, cut-made, group-fits, group-made}
+use Rattle.refusal.specs.Laws.First.{handed-up}
 use Rattle.build_blocks.proofs.make.Goals as goal
 
-pub shape_of-order-in-Err : goal.shape_of-order-in-Err
-shape_of-order-in-Err c = c.ready-verdict.auto.order
+pub shape_of-order-in_err-ready : goal.shape_of-order-in_err-ready
+shape_of-order-in_err-ready c = c.ready.auto.order
 
-pub shape_of-blocks-in-Err : goal.shape_of-blocks-in-Err
-shape_of-blocks-in-Err c = c.ready-verdict.auto.blocks
+pub shape_of-blocks-in_err-ready : goal.shape_of-blocks-in_err-ready
+shape_of-blocks-in_err-ready c = c.ready.auto.blocks
 
-pub shape_of-sorted-in-Err : goal.shape_of-sorted-in-Err
-shape_of-sorted-in-Err c = c.ready-verdict.auto.sorted
+pub shape_of-sorted-in_err-ready : goal.shape_of-sorted-in_err-ready
+shape_of-sorted-in_err-ready c = c.ready.auto.sorted
 
-pub shape_of-known-in-Err : goal.shape_of-known-in-Err
-shape_of-known-in-Err c = c.ready-verdict.auto.known
+pub shape_of-known-in_err-ready : goal.shape_of-known-in_err-ready
+shape_of-known-in_err-ready c = c.ready.auto.known
 
-pub shape_of-taken-in-Err : goal.shape_of-taken-in-Err
-shape_of-taken-in-Err c = c.ready-verdict.auto.taken
+pub shape_of-taken-in_err-ready : goal.shape_of-taken-in_err-ready
+shape_of-taken-in_err-ready c = c.ready.auto.taken
 
-pub shape_of-counts-in-Err : goal.shape_of-counts-in-Err
-shape_of-counts-in-Err c = c.ready-verdict.auto.counts
+pub shape_of-counts-in_err-ready : goal.shape_of-counts-in_err-ready
+shape_of-counts-in_err-ready c = c.ready.auto.counts
 
-pub shape_of-starts-in-Err : goal.shape_of-starts-in-Err
-shape_of-starts-in-Err c = c.ready-verdict.auto.starts
+pub shape_of-starts-in_err-ready : goal.shape_of-starts-in_err-ready
+shape_of-starts-in_err-ready c = c.ready.auto.starts
 
-pub shape_of-slots-in-Err : goal.shape_of-slots-in-Err
-shape_of-slots-in-Err c = c.ready-verdict.auto.slots
+pub shape_of-slots-in_err-ready : goal.shape_of-slots-in_err-ready
+shape_of-slots-in_err-ready c = c.ready.auto.slots
 
-pub shape_of-weights-in-Err : goal.shape_of-weights-in-Err
-shape_of-weights-in-Err c = c.ready-verdict.auto.weights
+pub shape_of-weights-in_err-ready : goal.shape_of-weights-in_err-ready
+shape_of-weights-in_err-ready c = c.ready.auto.weights
 
-pub shape_of-sums-in-Err : goal.shape_of-sums-in-Err
-shape_of-sums-in-Err c = c.ready-verdict.auto.sums
+pub shape_of-sums-in_err-ready : goal.shape_of-sums-in_err-ready
+shape_of-sums-in_err-ready c = c.ready.auto.sums
 
-pub shape_of-keys-in-Err : goal.shape_of-keys-in-Err
-shape_of-keys-in-Err c = c.ready-verdict.auto.keys
+pub shape_of-keys-in_err-ready : goal.shape_of-keys-in_err-ready
+shape_of-keys-in_err-ready c = c.ready.auto.keys
 
-pub returns-in-Err : goal.returns-in-Err
-returns-in-Err c =
+pub returns-in_err-ready : goal.returns-in_err-ready
+returns-in_err-ready c =
     let a = c.args in
-    refused-made a.dimension a.blocking (documents a.offsets.now a.components.now a.values.now) a.ids.now a.centroids.now
+    rw (handed-up c.from_residual.result _ c.from_residual.ensures.1)
+    (refused-made a.dimension a.blocking (documents a.offsets.now a.components.now a.values.now) a.ids.now a.centroids.now
     (scratches a.order.now a.blocks.now a.sorted.now a.known.now a.taken.now a.counts.now a.starts.now a.slots.now a.weights.now
-    a.sums.now a.keys.now) c.ready-verdict.result c.ready-verdict.ensures.answer
-    (scratches c.ready-verdict.new.order c.ready-verdict.new.blocks c.ready-verdict.new.sorted
-    c.ready-verdict.new.known c.ready-verdict.new.taken
-    c.ready-verdict.new.counts c.ready-verdict.new.starts
-    c.ready-verdict.new.slots c.ready-verdict.new.weights
-    c.ready-verdict.new.sums c.ready-verdict.new.keys) _
-    c.in-Err.is c.ready-verdict.ensures.scratch
+    a.sums.now a.keys.now) c.ready.result c.ready.ensures.answer
+    (scratches c.ready.new.order c.ready.new.blocks c.ready.new.sorted
+    c.ready.new.known c.ready.new.taken
+    c.ready.new.counts c.ready.new.starts
+    c.ready.new.slots c.ready.new.weights
+    c.ready.new.sums c.ready.new.keys) _
+    c.in_err-ready.was c.ready.ensures.scratch)
 
 pub cut-requires : goal.cut-requires
 cut-requires c =
     let a = c.args in
     cut_fits a.dimension a.blocking (documents a.offsets.now a.components.now a.values.now) a.ids.now a.centroids.now
     (scratches a.order.now a.blocks.now a.sorted.now a.known.now a.taken.now a.counts.now a.starts.now a.slots.now a.weights.now
-    a.sums.now a.keys.now) c.ready-verdict.result c.ready-verdict.ensures.answer c.in_default.is
-    (scratches c.ready-verdict.new.order c.ready-verdict.new.blocks c.ready-verdict.new.sorted
-    c.ready-verdict.new.known c.ready-verdict.new.taken
-    c.ready-verdict.new.counts c.ready-verdict.new.starts
-    c.ready-verdict.new.slots c.ready-verdict.new.weights
-    c.ready-verdict.new.sums c.ready-verdict.new.keys)
-    c.ready-verdict.ensures.scratch _ c.in-FixedSize.is
+    a.sums.now a.keys.now) c.ready.result c.ready.ensures.answer c.in_ok-ready.was
+    (scratches c.ready.new.order c.ready.new.blocks c.ready.new.sorted
+    c.ready.new.known c.ready.new.taken
+    c.ready.new.counts c.ready.new.starts
+    c.ready.new.slots c.ready.new.weights
+    c.ready.new.sums c.ready.new.keys)
+    c.ready.ensures.scratch _ c.in-FixedSize.is
 
 pub by_clusters-requires : goal.by_clusters-requires
 by_clusters-requires c =
     let a = c.args in
     group-fits a.dimension a.blocking (documents a.offsets.now a.components.now a.values.now) a.ids.now a.centroids.now
     (scratches a.order.now a.blocks.now a.sorted.now a.known.now a.taken.now a.counts.now a.starts.now a.slots.now a.weights.now
-    a.sums.now a.keys.now) c.ready-verdict.result c.ready-verdict.ensures.answer c.in_default.is
-    (scratches c.ready-verdict.new.order c.ready-verdict.new.blocks c.ready-verdict.new.sorted
-    c.ready-verdict.new.known c.ready-verdict.new.taken
-    c.ready-verdict.new.counts c.ready-verdict.new.starts
-    c.ready-verdict.new.slots c.ready-verdict.new.weights
-    c.ready-verdict.new.sums c.ready-verdict.new.keys)
-    c.ready-verdict.ensures.scratch _ _ _ c.in-RandomKmeans.is c.well_formed.1.1.1.1.1.0.0 c.well_formed.1.1.1.1.1.1.1.1.1.1.1.1.1.1.0.0
+    a.sums.now a.keys.now) c.ready.result c.ready.ensures.answer c.in_ok-ready.was
+    (scratches c.ready.new.order c.ready.new.blocks c.ready.new.sorted
+    c.ready.new.known c.ready.new.taken
+    c.ready.new.counts c.ready.new.starts
+    c.ready.new.slots c.ready.new.weights
+    c.ready.new.sums c.ready.new.keys)
+    c.ready.ensures.scratch _ _ _ c.in-RandomKmeans.is c.well_formed.1.1.1.1.1.0.0 c.well_formed.1.1.1.1.1.1.1.1.1.1.1.1.1.1.0.0
 
 pub shape_of-order-in-FixedSize : goal.shape_of-order-in-FixedSize
 shape_of-order-in-FixedSize c =
-    c.cut.auto.order ∙ c.ready-verdict.auto.order
+    c.cut.auto.order ∙ c.ready.auto.order
 
 pub shape_of-blocks-in-FixedSize : goal.shape_of-blocks-in-FixedSize
 shape_of-blocks-in-FixedSize c =
-    c.cut.auto.blocks ∙ c.ready-verdict.auto.blocks
+    c.cut.auto.blocks ∙ c.ready.auto.blocks
 
 pub shape_of-sorted-in-FixedSize : goal.shape_of-sorted-in-FixedSize
 shape_of-sorted-in-FixedSize c =
-    c.ready-verdict.auto.sorted
+    c.ready.auto.sorted
 
 pub shape_of-known-in-FixedSize : goal.shape_of-known-in-FixedSize
 shape_of-known-in-FixedSize c =
-    c.ready-verdict.auto.known
+    c.ready.auto.known
 
 pub shape_of-taken-in-FixedSize : goal.shape_of-taken-in-FixedSize
 shape_of-taken-in-FixedSize c =
-    c.ready-verdict.auto.taken
+    c.ready.auto.taken
 
 pub shape_of-counts-in-FixedSize : goal.shape_of-counts-in-FixedSize
 shape_of-counts-in-FixedSize c =
-    c.ready-verdict.auto.counts
+    c.ready.auto.counts
 
 pub shape_of-starts-in-FixedSize : goal.shape_of-starts-in-FixedSize
 shape_of-starts-in-FixedSize c =
-    c.ready-verdict.auto.starts
+    c.ready.auto.starts
 
 pub shape_of-slots-in-FixedSize : goal.shape_of-slots-in-FixedSize
 shape_of-slots-in-FixedSize c =
-    c.ready-verdict.auto.slots
+    c.ready.auto.slots
 
 pub shape_of-weights-in-FixedSize : goal.shape_of-weights-in-FixedSize
 shape_of-weights-in-FixedSize c =
-    c.ready-verdict.auto.weights
+    c.ready.auto.weights
 
 pub shape_of-sums-in-FixedSize : goal.shape_of-sums-in-FixedSize
 shape_of-sums-in-FixedSize c =
-    c.ready-verdict.auto.sums
+    c.ready.auto.sums
 
 pub shape_of-keys-in-FixedSize : goal.shape_of-keys-in-FixedSize
 shape_of-keys-in-FixedSize c =
-    c.ready-verdict.auto.keys
+    c.ready.auto.keys
 
 pub returns-in-FixedSize : goal.returns-in-FixedSize
 returns-in-FixedSize c =
     let a = c.args in
     cut-made a.dimension a.blocking (documents a.offsets.now a.components.now a.values.now) a.ids.now a.centroids.now
     (scratches a.order.now a.blocks.now a.sorted.now a.known.now a.taken.now a.counts.now a.starts.now a.slots.now a.weights.now
-    a.sums.now a.keys.now) c.ready-verdict.result c.ready-verdict.ensures.answer c.in_default.is
-    (scratches c.ready-verdict.new.order c.ready-verdict.new.blocks c.ready-verdict.new.sorted
-    c.ready-verdict.new.known c.ready-verdict.new.taken
-    c.ready-verdict.new.counts c.ready-verdict.new.starts
-    c.ready-verdict.new.slots c.ready-verdict.new.weights
-    c.ready-verdict.new.sums c.ready-verdict.new.keys)
-    c.ready-verdict.ensures.scratch _ c.in-FixedSize.is _ _ _ c.cut.ensures.answer c.cut.ensures.order c.cut.ensures.blocks
+    a.sums.now a.keys.now) c.ready.result c.ready.ensures.answer c.in_ok-ready.was
+    (scratches c.ready.new.order c.ready.new.blocks c.ready.new.sorted
+    c.ready.new.known c.ready.new.taken
+    c.ready.new.counts c.ready.new.starts
+    c.ready.new.slots c.ready.new.weights
+    c.ready.new.sums c.ready.new.keys)
+    c.ready.ensures.scratch _ c.in-FixedSize.is _ _ _ c.cut.ensures.answer c.cut.ensures.order c.cut.ensures.blocks
 
 pub shape_of-order-in-RandomKmeans : goal.shape_of-order-in-RandomKmeans
 shape_of-order-in-RandomKmeans c =
-    c.by_clusters.auto.order ∙ c.ready-verdict.auto.order
+    c.by_clusters.auto.order ∙ c.ready.auto.order
 
 pub shape_of-blocks-in-RandomKmeans : goal.shape_of-blocks-in-RandomKmeans
 shape_of-blocks-in-RandomKmeans c =
-    c.by_clusters.auto.blocks ∙ c.ready-verdict.auto.blocks
+    c.by_clusters.auto.blocks ∙ c.ready.auto.blocks
 
 pub shape_of-sorted-in-RandomKmeans : goal.shape_of-sorted-in-RandomKmeans
 shape_of-sorted-in-RandomKmeans c =
-    c.by_clusters.auto.sorted ∙ c.ready-verdict.auto.sorted
+    c.by_clusters.auto.sorted ∙ c.ready.auto.sorted
 
 pub shape_of-known-in-RandomKmeans : goal.shape_of-known-in-RandomKmeans
 shape_of-known-in-RandomKmeans c =
-    c.by_clusters.auto.known ∙ c.ready-verdict.auto.known
+    c.by_clusters.auto.known ∙ c.ready.auto.known
 
 pub shape_of-taken-in-RandomKmeans : goal.shape_of-taken-in-RandomKmeans
 shape_of-taken-in-RandomKmeans c =
-    c.by_clusters.auto.taken ∙ c.ready-verdict.auto.taken
+    c.by_clusters.auto.taken ∙ c.ready.auto.taken
 
 pub shape_of-counts-in-RandomKmeans : goal.shape_of-counts-in-RandomKmeans
 shape_of-counts-in-RandomKmeans c =
-    c.by_clusters.auto.counts ∙ c.ready-verdict.auto.counts
+    c.by_clusters.auto.counts ∙ c.ready.auto.counts
 
 pub shape_of-starts-in-RandomKmeans : goal.shape_of-starts-in-RandomKmeans
 shape_of-starts-in-RandomKmeans c =
-    c.by_clusters.auto.starts ∙ c.ready-verdict.auto.starts
+    c.by_clusters.auto.starts ∙ c.ready.auto.starts
 
 pub shape_of-slots-in-RandomKmeans : goal.shape_of-slots-in-RandomKmeans
 shape_of-slots-in-RandomKmeans c =
-    c.by_clusters.auto.slots ∙ c.ready-verdict.auto.slots
+    c.by_clusters.auto.slots ∙ c.ready.auto.slots
 
 pub shape_of-weights-in-RandomKmeans : goal.shape_of-weights-in-RandomKmeans
 shape_of-weights-in-RandomKmeans c =
-    c.by_clusters.auto.weights ∙ c.ready-verdict.auto.weights
+    c.by_clusters.auto.weights ∙ c.ready.auto.weights
 
 pub shape_of-sums-in-RandomKmeans : goal.shape_of-sums-in-RandomKmeans
 shape_of-sums-in-RandomKmeans c =
-    c.by_clusters.auto.sums ∙ c.ready-verdict.auto.sums
+    c.by_clusters.auto.sums ∙ c.ready.auto.sums
 
 pub shape_of-keys-in-RandomKmeans : goal.shape_of-keys-in-RandomKmeans
 shape_of-keys-in-RandomKmeans c =
-    c.by_clusters.auto.keys ∙ c.ready-verdict.auto.keys
+    c.by_clusters.auto.keys ∙ c.ready.auto.keys
 
 pub returns-in-RandomKmeans : goal.returns-in-RandomKmeans
 returns-in-RandomKmeans c =
     let a = c.args in
     group-made a.dimension a.blocking (documents a.offsets.now a.components.now a.values.now) a.ids.now a.centroids.now
     (scratches a.order.now a.blocks.now a.sorted.now a.known.now a.taken.now a.counts.now a.starts.now a.slots.now a.weights.now
-    a.sums.now a.keys.now) c.ready-verdict.result c.ready-verdict.ensures.answer c.in_default.is
-    (scratches c.ready-verdict.new.order c.ready-verdict.new.blocks c.ready-verdict.new.sorted
-    c.ready-verdict.new.known c.ready-verdict.new.taken
-    c.ready-verdict.new.counts c.ready-verdict.new.starts
-    c.ready-verdict.new.slots c.ready-verdict.new.weights
-    c.ready-verdict.new.sums c.ready-verdict.new.keys)
-    c.ready-verdict.ensures.scratch _ _ _ c.in-RandomKmeans.is _
+    a.sums.now a.keys.now) c.ready.result c.ready.ensures.answer c.in_ok-ready.was
+    (scratches c.ready.new.order c.ready.new.blocks c.ready.new.sorted
+    c.ready.new.known c.ready.new.taken
+    c.ready.new.counts c.ready.new.starts
+    c.ready.new.slots c.ready.new.weights
+    c.ready.new.sums c.ready.new.keys)
+    c.ready.ensures.scratch _ _ _ c.in-RandomKmeans.is _
     (scratches c.by_clusters.new.order c.by_clusters.new.blocks
     c.by_clusters.new.sorted c.by_clusters.new.known
     c.by_clusters.new.taken c.by_clusters.new.counts
