@@ -8,16 +8,16 @@ use Rattle.search_postings.proofs.step_on.Goals as goal
 pub overflow_add-result : goal.overflow_add-result
 overflow_add-result c =
     let a = c.args in
-    let z = step_left a.k a.table.now a.sieve.now a.query_components.now a.query_values.now a.components.now a.values.now a.postings.now a.narrow a.i a.stop c.at_u64.result
-    c.at_u64.ensures a.counts (lends (lent a.length.now a.packed.now a.scores.now) a.visits.now) _ c.evaluate_two-both.result c.evaluate_two-both.ensures
+    let z = step_left a.k a.table.now a.sieve.now a.query_components.now a.query_values.now a.components.now a.values.now a.postings.now a.narrow a.i a.stop c.at.result
+    c.at.ensures a.counts (lends (lent a.length.now a.packed.now a.scores.now) a.visits.now) _ c.evaluate_two-both.result c.evaluate_two-both.ensures
     _ c.in-Done.is in
     omega (arith, z, c.ranges)
 
 pub returns-in-Done : goal.returns-in-Done
 returns-in-Done c =
     let a = c.args in record {
-      turned = step-two a.k a.table.now a.sieve.now a.query_components.now a.query_values.now a.components.now a.values.now a.postings.now a.narrow a.i a.stop c.at_u64.result
-          c.at_u64.ensures a.counts (lends (lent a.length.now a.packed.now a.scores.now) a.visits.now) _ c.evaluate_two-both.result c.evaluate_two-both.ensures _ c.in-Done.is;
+      turned = step-two a.k a.table.now a.sieve.now a.query_components.now a.query_values.now a.components.now a.values.now a.postings.now a.narrow a.i a.stop c.at.result
+          c.at.ensures a.counts (lends (lent a.length.now a.packed.now a.scores.now) a.visits.now) _ c.evaluate_two-both.result c.evaluate_two-both.ensures _ c.in-Done.is;
       further = omega arith;
     }
 
@@ -28,8 +28,8 @@ overflow_add-result-in-On c =
 pub returns-in-On : goal.returns-in-On
 returns-in-On c =
     let a = c.args in record {
-      turned = step-one a.k a.table.now a.sieve.now a.query_components.now a.query_values.now a.components.now a.values.now a.postings.now a.narrow a.i a.stop c.at_u64.result
-          c.at_u64.ensures a.counts (lends (lent a.length.now a.packed.now a.scores.now) a.visits.now) _ c.evaluate_two-both.result c.evaluate_two-both.ensures
+      turned = step-one a.k a.table.now a.sieve.now a.query_components.now a.query_values.now a.components.now a.values.now a.postings.now a.narrow a.i a.stop c.at.result
+          c.at.ensures a.counts (lends (lent a.length.now a.packed.now a.scores.now) a.visits.now) _ c.evaluate_two-both.result c.evaluate_two-both.ensures
           c.in_default.is c.evaluate-t.result _ c.requires.i_lt_stop c.evaluate-t.ensures _ c.in-On.is;
       further = omega arith;
     }
@@ -37,8 +37,8 @@ returns-in-On c =
 pub returns-in-Stopped : goal.returns-in-Stopped
 returns-in-Stopped c =
     let a = c.args in record {
-      turned = step-stop a.k a.table.now a.sieve.now a.query_components.now a.query_values.now a.components.now a.values.now a.postings.now a.narrow a.i a.stop c.at_u64.result
-          c.at_u64.ensures a.counts (lends (lent a.length.now a.packed.now a.scores.now) a.visits.now) _ c.evaluate_two-both.result c.evaluate_two-both.ensures
+      turned = step-stop a.k a.table.now a.sieve.now a.query_components.now a.query_values.now a.components.now a.values.now a.postings.now a.narrow a.i a.stop c.at.result
+          c.at.ensures a.counts (lends (lent a.length.now a.packed.now a.scores.now) a.visits.now) _ c.evaluate_two-both.result c.evaluate_two-both.ensures
           c.in_default.is c.evaluate-t.result _ c.requires.i_lt_stop c.evaluate-t.ensures _ _ c.in-Stopped.is;
       further = c.requires.i_lt_stop;
     }
