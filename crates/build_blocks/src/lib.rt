@@ -12,9 +12,9 @@ ghost use Rattle.build_ready.specs.Made.{make_tests, left, holding, left_by};
 ghost use Rattle.build_blocks.specs.Fits.{CutFits, GroupFits};
 ghost use Rattle.build_blocks.specs.Longest.{longest_of};
 
-use refusal::Refusal;
 use configuration::{BlockingStrategy, ClusteringAlgorithm};
 use number_types::DocumentId;
+use refusal::Refusal;
 
 // Copies the ids to the front of the order.
 fn copy(ids: &[u64], order: &mut [u64])
@@ -143,9 +143,7 @@ pub fn make(
         known, taken, counts, starts, slots, weights, sums, keys,
     )?;
     match blocking {
-        BlockingStrategy::FixedSize { block_size } => Ok(cut(
-            block_size, ids, order, blocks,
-        )),
+        BlockingStrategy::FixedSize { block_size } => Ok(cut(block_size, ids, order, blocks)),
         BlockingStrategy::RandomKmeans {
             centroid_fraction: _,
             min_cluster_size,

@@ -9,9 +9,9 @@ ghost use Rattle.build_meaning.specs.Building.{outputs, output_lengths, zeros};
 ghost use Rattle.build_layout.specs.Laid.{built_from, laid_verdict, left, left_by};
 
 use build_meaning::BuiltSizes;
-use refusal::Refusal;
 use build_sizes::OutputLengths;
 use configuration::SummarizationStrategy;
+use refusal::Refusal;
 
 // Writes the result of a build: `order` has the list's documents in block order, and `blocks` where each block starts and where the
 // last one ends. Each output buffer has its part of the result in front, and past it nothing changes; a document whose range cannot be

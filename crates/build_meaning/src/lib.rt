@@ -18,4 +18,3 @@ pub struct BuiltSizes {
     // of minimums, and of steps
     pub summaries: u64,
 }
-

@@ -11,10 +11,10 @@ ghost use Rattle.build_output.specs.Placed.{written, second_pass};
 ghost use Rattle.build_output.specs.Settled.{left, settled};
 
 use build_meaning::BuiltSizes;
-use refusal::Refusal;
 use configuration::SummarizationStrategy;
 use number_types::DocumentId;
 use packing::PackedPosting;
+use refusal::Refusal;
 
 // A document's range in one number; 0 for one that cannot be packed.
 fn posting(offsets: &[u64], id: DocumentId) -> u64

@@ -9,8 +9,8 @@ ghost use Rattle.build_layout.specs.Laid.{left};
 ghost use Rattle.build_result.specs.Finished.{finished, finished_by, slots_by};
 
 use build_meaning::BuiltSizes;
-use refusal::Refusal;
 use configuration::SummarizationStrategy;
+use refusal::Refusal;
 
 // Writes the result of a build from the blocks that were made: the first `listed` of `order` and as many of `blocks` as there are
 // offsets; both are zero then, and so is what it works in, `slots` too, where the keys that the blocks keep are stored. Where the blocks

@@ -8,8 +8,8 @@ ghost use Rattle.build_meaning.specs.Building.{outputs};
 ghost use Rattle.build_small.specs.Short.{made, made_short};
 
 use build_meaning::BuiltSizes;
-use refusal::Refusal;
 use configuration::{BlockingStrategy, SummarizationStrategy};
+use refusal::Refusal;
 
 // posting_list::build with 512 places for the terms of the centroids (slots and weights) and 64 in every other scratch buffer, so that a
 // list which needs more is refused with 4. The result stands in front of the eight output buffers; refused, they are zero.

@@ -7,8 +7,8 @@ ghost use Rattle.build_meaning.specs.Built.{input};
 ghost use Rattle.build_meaning.specs.Building.{outputs, scratches, lent, leaves, builds};
 
 use build_meaning::BuiltSizes;
-use refusal::Refusal;
 use configuration::{BlockingStrategy, SummarizationStrategy};
+use refusal::Refusal;
 
 // Builds a posting list from the listed documents. The result stands in front of the eight output buffers, past which nothing changes;
 // the answer has its sizes. Refused, in this order: 8 (length, dimension), 6, 14 (listed documents and centroids), 1, 2 (listed

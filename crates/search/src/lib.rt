@@ -22,7 +22,14 @@ use refusal::Refusal;
 use search_probe::Answer;
 
 // The first fault in the order of the refusals: 11, 10, 6, 9, 12, 4.
-fn judge(nothing: bool, query: bool, even: bool, list: bool, kept: bool, room: bool) -> Result<(), Refusal>
+fn judge(
+    nothing: bool,
+    query: bool,
+    even: bool,
+    list: bool,
+    kept: bool,
+    room: bool,
+) -> Result<(), Refusal>
     ensures { result ≡ first_of ((nothing gives NothingToKeep) ∷ (not query gives WrongQuery) ∷ (not even gives WrongDocuments)
         ∷ (not list gives MalformedList) ∷ (not kept gives WrongKeptList) ∷ (not room gives BufferTooShort) ∷ []) }
 {

@@ -52,7 +52,10 @@ fn quantize<const N: usize>(rt: &impl Print, asked: &str, values: &[f32; N]) -> 
             }
             print!(rt; ", read back")?;
             for code in &codes {
-                print!(rt; " {}", whole(quantizing::read_back(scale.least, scale.step, *code)))?;
+                print!(rt;
+                    " {}",
+                    whole(quantizing::read_back(scale.least, scale.step, *code))
+                )?;
             }
             println!(rt; "")
         }
@@ -79,13 +82,7 @@ fn push_four(rt: &impl Print) -> io::Result<()> {
     for (score, start) in [(5.0, 10), (3.0, 0), (3.0, 20), (4.0, 30)] {
         if let Ok(p) = PackedPosting::pack(RangeStart(start), start) {
             let e = Scored::new(p.0, score);
-            if let Err(reason) = kept_push::push(
-                2,
-                &mut length,
-                &mut packed,
-                &mut scores,
-                e,
-            ) {
+            if let Err(reason) = kept_push::push(2, &mut length, &mut packed, &mut scores, e) {
                 say_refusal(rt, reason)?;
             }
         }

@@ -16,9 +16,9 @@ loop-i-init c =
     let a = c.args in
     let z = c.clear in (
       over-start (again_rank a.known.now a.counts.now a.minimum a.cut a.first.0 a.competing.now
-          (documents a.starts.now a.slots.now a.weights.now) (length z.new.values) (length a.keys.now)
+          (documents a.starts.now a.slots.now a.weights.now) (length z.new.numbers) (length a.keys.now)
           (documents a.offsets.now a.components.now a.values.now)) a.ids.now a.taken.now,
-      z.ensures ∙ ap (λ n. replicate n none) (sym z.auto.values),
+      z.ensures ∙ ap (λ n. replicate n none) (sym z.auto.numbers),
     )
 
 pub loop-i-preserved : goal.loop-i-preserved
@@ -26,14 +26,14 @@ loop-i-preserved c =
     let l = c.loop-i in let a = c.args in let z = c.clear in let s = c.is_small in elim c.if-is_small.branch [
       | then-is_small w ↦ let r = w.near_rank-r in (
         w.taken-is ∙ taken-again a.known.now a.counts.now a.minimum a.cut a.first.0 a.competing.now (documents a.starts.now a.slots.now a.weights.now)
-            (length z.new.values) (length a.keys.now) (documents a.offsets.now a.components.now a.values.now) a.ids.now a.taken.now l.taken l.i
+            (length z.new.numbers) (length a.keys.now) (documents a.offsets.now a.components.now a.values.now) a.ids.now a.taken.now l.taken l.i
             (length l.sums) (length l.keys) r.result.0 s.result l.invariant.0 (omega (arith, c.loop-i-test.true, c.min-end.ensures))
             (omega (arith, c.loop-i-test.true, c.min-end.ensures)) l.auto.sums l.auto.keys s.ensures w.if-is_small.true r.ensures.answer,
         w.sums-is ∙ r.ensures.sums ∙ ap (λ n. replicate n none) l.auto.sums,
       )
       | else-is_small w ↦ (
         w.taken-is ∙ stayed a.known.now a.counts.now a.minimum a.cut a.first.0 a.competing.now (documents a.starts.now a.slots.now a.weights.now)
-            (length z.new.values) (length a.keys.now) (documents a.offsets.now a.components.now a.values.now) a.ids.now a.taken.now l.taken l.i
+            (length z.new.numbers) (length a.keys.now) (documents a.offsets.now a.components.now a.values.now) a.ids.now a.taken.now l.taken l.i
             s.result l.invariant.0 (omega (arith, c.loop-i-test.true, c.min-end.ensures)) (omega (arith, c.loop-i-test.true, c.min-end.ensures)) s.ensures w.if-is_small.false,
         w.sums-is ∙ l.invariant.1,
       )
@@ -43,11 +43,11 @@ pub returns : goal.returns
 returns c =
     let l = c.loop-i in let a = c.args in let z = c.clear in record {
       taken = over-cut (again_rank a.known.now a.counts.now a.minimum a.cut a.first.0 a.competing.now (documents a.starts.now a.slots.now a.weights.now)
-          (length z.new.values) (length a.keys.now) (documents a.offsets.now a.components.now a.values.now)) a.ids.now a.taken.now l.taken l.i
+          (length z.new.numbers) (length a.keys.now) (documents a.offsets.now a.components.now a.values.now)) a.ids.now a.taken.now l.taken l.i
           c.min-end.result l.invariant.0 c.min-end.ensures (omega (arith, l.auto.i-end, c.loop-i-test.false))
           ∙ ap (λ n. over (again_rank a.known.now a.counts.now a.minimum a.cut a.first.0 a.competing.now
           (documents a.starts.now a.slots.now a.weights.now) n (length a.keys.now) (documents a.offsets.now a.components.now a.values.now))
-          a.ids.now a.taken.now) z.auto.values;
-      sums = l.invariant.1 ∙ ap (λ n. replicate n none) z.auto.values;
+          a.ids.now a.taken.now) z.auto.numbers;
+      sums = l.invariant.1 ∙ ap (λ n. replicate n none) z.auto.numbers;
       keys = c.clear-2.ensures ∙ ap (λ n. replicate n 0) l.auto.keys;
     }

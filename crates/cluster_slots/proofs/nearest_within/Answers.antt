@@ -12,7 +12,7 @@ returns-then-meets_many c =
     let m = c.meets_many in
     let l = c.last_greatest-c in
     let f = c.clear in
-    by_all a.otherwise.0 a.competing.now (documents a.starts.now a.slots.now a.weights.now) a.sums.now k.new.sums f.new.values
+    by_all a.otherwise.0 a.competing.now (documents a.starts.now a.slots.now a.weights.now) a.sums.now k.new.sums f.new.numbers
     (map term_of a.keys.now) k.ensures m.result m.ensures l.result.0 c.if-meets_many.true l.ensures f.ensures
     ) in
     record {
