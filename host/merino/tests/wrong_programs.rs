@@ -32,7 +32,7 @@ fn files(folder: &Path, ending: &str) -> Vec<PathBuf> {
 fn declared(line: &str) -> Option<&str> {
     let (before, after) = line.split_once("fn ")?;
     let words = before.split_whitespace().all(|w| ["pub", "pub(crate)", "const", "extern", "\"C\""].contains(&w));
-    words.then(|| &after[..after.find('(').unwrap_or(0)]).filter(|name| !name.is_empty())
+    words.then(|| &after[..after.find(['(', '<']).unwrap_or(0)]).filter(|name| !name.is_empty())
 }
 
 /// The functions of a crate, each with its text up to the next one.
@@ -58,7 +58,9 @@ fn functions(source: &Path) -> Vec<Function> {
 /// Whether a function's text, its own declaration left out, calls one of this name.
 fn calls(caller: &Function, name: &str) -> bool {
     let body = &caller.text[caller.text.find('(').unwrap_or(0)..];
-    body.match_indices(&format!("{name}(")).any(|(i, _)| !body[..i].ends_with(|c: char| c.is_alphanumeric() || c == '_'))
+    let starts = |i: usize| !body[..i].ends_with(|c: char| c.is_alphanumeric() || c == '_');
+    // of a function for several kinds the kind may stand between its name and what it is given
+    body.match_indices(name).any(|(i, _)| starts(i) && (body[i + name.len()..].starts_with('(') || body[i + name.len()..].starts_with("::<")))
 }
 
 /// The places of the functions that one reaches within its crate, its own first.
@@ -87,10 +89,9 @@ fn changed(all: &[Function], folder: &Path, edit: &str) -> BTreeSet<usize> {
             let text = fs::read_to_string(folder.join(file)).expect(file);
             let at = text.find(old).unwrap_or_else(|| panic!("{} lacks {old}", folder.join(file).display()));
             let before = |f: &&Function| f.file == file && f.from <= at + old.len() - old.trim_start().len();
-            places.extend(all.iter().filter(before).count().checked_sub(1).map(|n| {
-                let first = all.iter().position(|f| f.file == file).expect(file);
-                first + n
-            }));
+            // what stands before a file's first function, such as the numbers of an enum, is taken to be that one's
+            let place = all.iter().filter(before).count().saturating_sub(1);
+            places.extend(all.iter().position(|f| f.file == file).map(|first| first + place));
         }
     }
     places
