@@ -101,13 +101,8 @@ pub(crate) fn evaluate_two(
         ≡ held_two k (read_both wanted table.now components.now values.now visits.old one.0 two.0) one.0 two.0 counts
         (lends (lent length.old packed.old scores.old) visits.old) }
 {
-    let r = read_both(wanted, table, components, values, visits, one, two);
-    match r {
-        None => None,
-        Some(s) => {
-            let c = evaluate_known(k, one, s.one, length, packed, scores, visits, counts);
-            let d = evaluate_known(k, two, s.two, length, packed, scores, visits, c);
-            Some(d)
-        }
-    }
+    let s = read_both(wanted, table, components, values, visits, one, two)?;
+    let c = evaluate_known(k, one, s.one, length, packed, scores, visits, counts);
+    let d = evaluate_known(k, two, s.two, length, packed, scores, visits, c);
+    Some(d)
 }
