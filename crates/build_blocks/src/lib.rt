@@ -12,10 +12,9 @@ ghost use Rattle.build_ready.specs.Made.{make_tests, left, holding, left_by};
 ghost use Rattle.build_blocks.specs.Fits.{CutFits, GroupFits};
 ghost use Rattle.build_blocks.specs.Longest.{longest_of};
 
-use build_ready::Result<u64, Refusal>;
+use refusal::Refusal;
 use configuration::{BlockingStrategy, ClusteringAlgorithm};
 use number_types::DocumentId;
-use refusal::Result<(), Refusal>;
 
 // Copies the ids to the front of the order.
 fn copy(ids: &[u64], order: &mut [u64])

@@ -8,8 +8,8 @@ ghost use Rattle.build_count_pass.specs.Counting.{counting};
 ghost use Rattle.build_meaning.specs.Building.{outputs, output_lengths, zeros};
 ghost use Rattle.build_layout.specs.Laid.{built_from, laid_verdict, left, left_by};
 
+use build_meaning::BuiltSizes;
 use refusal::Refusal;
-use build_meaning::Result<BuiltSizes, Refusal>;
 use build_sizes::OutputLengths;
 use configuration::SummarizationStrategy;
 

@@ -10,8 +10,8 @@ ghost use Rattle.build_sizes.specs.Sized.{posting_of};
 ghost use Rattle.build_output.specs.Placed.{written, second_pass};
 ghost use Rattle.build_output.specs.Settled.{left, settled};
 
+use build_meaning::BuiltSizes;
 use refusal::Refusal;
-use build_meaning::Result<BuiltSizes, Refusal>;
 use configuration::SummarizationStrategy;
 use number_types::DocumentId;
 use packing::PackedPosting;

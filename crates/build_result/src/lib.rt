@@ -8,9 +8,8 @@ ghost use Rattle.build_meaning.specs.Building.{outputs};
 ghost use Rattle.build_layout.specs.Laid.{left};
 ghost use Rattle.build_result.specs.Finished.{finished, finished_by, slots_by};
 
+use build_meaning::BuiltSizes;
 use refusal::Refusal;
-use build_meaning::Result<BuiltSizes, Refusal>;
-use build_ready::Result<u64, Refusal>;
 use configuration::SummarizationStrategy;
 
 // Writes the result of a build from the blocks that were made: the first `listed` of `order` and as many of `blocks` as there are

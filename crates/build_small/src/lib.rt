@@ -7,8 +7,8 @@ ghost use Rattle.build_meaning.specs.Built.{input};
 ghost use Rattle.build_meaning.specs.Building.{outputs};
 ghost use Rattle.build_small.specs.Short.{made, made_short};
 
+use build_meaning::BuiltSizes;
 use refusal::Refusal;
-use build_meaning::Result<BuiltSizes, Refusal>;
 use configuration::{BlockingStrategy, SummarizationStrategy};
 
 // posting_list::build with 512 places for the terms of the centroids (slots and weights) and 64 in every other scratch buffer, so that a

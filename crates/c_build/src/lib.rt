@@ -5,8 +5,8 @@ ghost use Rattle.std.specs.Prelude.{◌≡◌};
 ghost use Rattle.build_meaning.specs.Building.{numbers, in_numbers};
 ghost use Rattle.c_build.specs.Chosen.{algorithm_of, blocking_of, summarization_of};
 
+use build_meaning::BuiltSizes;
 use refusal::Refusal;
-use build_meaning::Result<BuiltSizes, Refusal>;
 use configuration::{BlockingStrategy, ClusteringAlgorithm, SummarizationStrategy};
 
 // How the nearest centroid is found: 1 is by each dot product, 2 by a document's largest terms. Any other number does as 2, and is

@@ -4,14 +4,10 @@
 ghost use Rattle.std.specs.Prelude.{◌≡◌, get_or, set};
 
 // What stands at a place; something else past the end.
-pub fn at<T: Copy>(cells: &[T], place: usize, rest: T) -> T
-    ensures { result ≡ get_or cells.now place rest }
+pub fn at<T: Copy>(cells: &[T], at: usize, rest: T) -> T
+    ensures { result ≡ get_or cells.now at rest }
 {
-    if place < cells.len() {
-        cells[place]
-    } else {
-        rest
-    }
+    if at < cells.len() { cells[at] } else { rest }
 }
 
 // Stores at a place; nothing past the end.

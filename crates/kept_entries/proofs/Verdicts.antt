@@ -18,7 +18,7 @@ use Rattle.kept_list.specs.Push.{is_number, well_kept, verdict_of, left, pushed}
 use Rattle.kept_push.proofs.Soundness.{eq_self}
 use Rattle.kept_push.proofs.Verdicts.{refused-leaves, accepted-leaves}
 use Rattle.kept_entries.specs.Entries.{as_lent}
-use Rattle.kept_entries.specs.Answers.{verdict_by, is_refused, answer_of, verdict_in, length_in}
+use Rattle.kept_entries.specs.Answers.{verdict_by, verdict_in, length_in}
 
 -- ---- by value
 module _ (k n room : ℕ) (sound : Bool) (e : Scored) where

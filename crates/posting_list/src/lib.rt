@@ -6,8 +6,8 @@ ghost use Rattle.documents.specs.Documents.{documents};
 ghost use Rattle.build_meaning.specs.Built.{input};
 ghost use Rattle.build_meaning.specs.Building.{outputs, scratches, lent, leaves, builds};
 
+use build_meaning::BuiltSizes;
 use refusal::Refusal;
-use build_meaning::Result<BuiltSizes, Refusal>;
 use configuration::{BlockingStrategy, SummarizationStrategy};
 
 // Builds a posting list from the listed documents. The result stands in front of the eight output buffers, past which nothing changes;

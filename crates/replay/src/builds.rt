@@ -97,11 +97,11 @@ fn builds_from(w: &[u32], longs: &[u64], floats: &[f32]) -> bool
         blocking_in(w),
         summarization_in(w),
         float32::value_of_key(0xc130_0000),
-        replay_words::longs_of(w, 16, longs),
+        replay_words::slice_of(w, 16, longs),
         replay_words::words_of(w, 17),
-        replay_words::floats_of(w, 18, floats),
-        replay_words::longs_of(w, 19, longs),
-        replay_words::longs_of(w, 20, longs),
+        replay_words::slice_of(w, 18, floats),
+        replay_words::slice_of(w, 19, longs),
+        replay_words::slice_of(w, 20, longs),
     )
 }
 
@@ -111,7 +111,7 @@ pub(crate) fn builds_agree(w: &[u32]) -> bool
 {
     let mut longs = [0u64; 1024];
     let mut floats = [0.0f32; 1024];
-    replay_words::fill_longs(w, &mut longs);
-    replay_words::fill_floats(w, &mut floats);
+    replay_words::fill(w, &mut longs);
+    replay_words::fill(w, &mut floats);
     builds_from(w, &longs, &floats)
 }

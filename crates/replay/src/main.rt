@@ -14,6 +14,7 @@ use std::io;
 use std::io::Read;
 
 // Whether the proved function's answer is the recorded one.
+// The kind stays a number, and no enum: cases are counted by it, and those of 0 and 7, which are no kinds, are counted too.
 fn agrees(kind: u32, words: &[u32]) -> bool
     ensures { result ≡ agrees_by kind words.now }
 {
@@ -37,43 +38,30 @@ fn replay_one<R: Read>(from: &mut R, cases: &mut [u64; 8], wrong: &mut u64) -> i
     }
     let kind = words[0];
     let same = agrees(kind % 8, &words);
-    if kind < 8 {
-        cases[kind as usize] = std::num::wrapping_add_u64(cases[kind as usize], 1);
-    } else {
-        cases[0] = std::num::wrapping_add_u64(cases[0], 1);
-    }
+    let place = if kind < 8 { kind as usize } else { 0 };
+    cases[place] = cases[place].wrapping_add(1);
     if same != (kind < 8) {
-        *wrong = std::num::wrapping_add_u64(*wrong, 1);
+        *wrong = wrong.wrapping_add(1);
     }
     Ok(true)
 }
 
-// Writes a number and what it counts.
-fn say(rt: &impl Print, name: &str, count: u64) -> io::Result<()> {
-    println!(rt; "{count} {name}")
-}
-
-// Writes how many cases of a kind there were.
-fn say_cases(rt: &impl Print, cases: &[u64; 8], kind: usize, name: &str) -> io::Result<()> {
-    if kind < 8 {
-        say(rt, name, cases[kind])?;
-    }
-    Ok(())
-}
-
 // Writes what was replayed, kind by kind, and how many answers differ.
 fn report(rt: &impl Print, cases: &[u64; 8], wrong: u64) -> io::Result<()> {
-    say_cases(rt, cases, 1, "ranges packed")?;
-    say_cases(rt, cases, 2, "lists cut into blocks")?;
-    say_cases(rt, cases, 3, "summaries quantized")?;
-    say_cases(rt, cases, 4, "entries pushed")?;
-    say_cases(rt, cases, 5, "lists searched")?;
-    say_cases(rt, cases, 6, "lists built")?;
-    say_cases(rt, cases, 0, "damaged answers")?;
-    say(
-        rt,
-        "judged wrong: an answer that differs from the original's, or a damaged one that does not",
-        wrong,
+    let names = [
+        "ranges packed",
+        "lists cut into blocks",
+        "summaries quantized",
+        "entries pushed",
+        "lists searched",
+        "lists built",
+    ];
+    for (name, count) in names.iter().zip(&cases[1..]) {
+        println!(rt; "{count} {name}")?;
+    }
+    println!(rt; "{} damaged answers", cases[0])?;
+    println!(rt;
+        "{wrong} judged wrong: an answer that differs from the original's, or a damaged one that does not"
     )
 }
 

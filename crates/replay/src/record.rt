@@ -5,18 +5,11 @@ ghost use Rattle.std.specs.Prelude.{◌<◌, ◌≤◌};
 use std::io;
 use std::io::{ErrorKind, Read};
 
-// A byte as a word.
-fn wide(x: u8) -> u32
-    ensures { result < 256 }
-{
-    x as u32
-}
-
 // A byte of a record, and 0 past its end.
 fn byte_at(bytes: &[u8; 4096], at: usize) -> u32
     ensures { result < 256 }
 {
-    if at < 4096 { wide(bytes[at]) } else { 0 }
+    if at < 4096 { bytes[at] as u32 } else { 0 }
 }
 
 // A word of a record, and in how many bytes it stands.
@@ -54,18 +47,16 @@ fn word_from(bytes: &[u8; 4096], at: usize) -> Step
 fn expand(n: usize, bytes: &[u8; 4096], words: &mut [u32]) -> usize
     requires { n ≤ 4096 }
 {
-    let mut i = 0;
-    let mut count = 0;
-    while count < words.len() {
-        if i >= n {
+    let mut at = 0;
+    for (count, word) in words.iter_mut().enumerate() {
+        if at >= n {
             return count;
         }
-        let s = word_from(bytes, i);
-        words[count] = s.word;
-        i += s.size;
-        count += 1;
+        let s = word_from(bytes, at);
+        *word = s.word;
+        at += s.size;
     }
-    count
+    words.len()
 }
 
 // Reads so many bytes; false where there are fewer, or no room for them.

@@ -50,7 +50,7 @@ pub fn blocks_agree(w: &[u32]) -> bool
     let mut offsets = [7u64; 256];
     let answer = blocking::fixed_size_blocking(word(w, 1) as u64, word(w, 2) as u64, &mut offsets);
     let wanted = words_of(w, 3);
-    is_written(answer, wanted.len() as u64) & replay_expected::same_longs(&offsets, wanted, 7)
+    is_written(answer, wanted.len() as u64) & replay_expected::same(&offsets, wanted, 7)
 }
 
 // Whether values are quantized as recorded, and nothing is written past the codes. 1: least; 2: step; 3, 4, 5: where the values and the
@@ -59,11 +59,10 @@ pub fn quantizes_agree(w: &[u32]) -> bool
     ensures { result ≡ quantizes_agree w.now }
 {
     let mut floats = [0.0f32; 1024];
-    replay_words::fill_floats(w, &mut floats);
+    replay_words::fill(w, &mut floats);
     let mut codes = [9u8; 64];
-    let answer = quantizing::quantize(replay_words::floats_of(w, 3, &floats), &mut codes);
-    is_summary(answer, word(w, 1), word(w, 2))
-        & replay_expected::same_bytes(&codes, words_of(w, 4), 9)
+    let answer = quantizing::quantize(replay_words::slice_of(w, 3, &floats), &mut codes);
+    is_summary(answer, word(w, 1), word(w, 2)) & replay_expected::same(&codes, words_of(w, 4), 9)
 }
 
 // Whether an entry is pushed as recorded, onto a list in buffers of eight places. 1: k; 2: length; 3: the new packed number; 4: the new
@@ -73,13 +72,13 @@ pub fn pushes_agree(w: &[u32]) -> bool
 {
     let mut packed = [0u64; 8];
     let mut scores = [0.0f32; 8];
-    replay_words::fill_longs(words_of(w, 6), &mut packed);
-    replay_words::fill_floats(words_of(w, 7), &mut scores);
+    replay_words::fill(words_of(w, 6), &mut packed);
+    replay_words::fill(words_of(w, 7), &mut scores);
     let mut length = word(w, 2) as u64;
     let e = Scored::new(word(w, 3) as u64, float(w, 4));
     let verdict = kept_push::push(word(w, 1) as u64, &mut length, &mut packed, &mut scores, e);
     (verdict.number() == 0)
         & (length == word(w, 5) as u64)
-        & replay_expected::same_longs(&packed, words_of(w, 8), 0)
-        & replay_expected::same_floats(&scores, words_of(w, 9), 0xffff_ffff)
+        & replay_expected::same(&packed, words_of(w, 8), 0)
+        & replay_expected::same(&scores, words_of(w, 9), 0xffff_ffff)
 }

@@ -3,6 +3,7 @@ use Prim.Native.Nat.{ℕ}
 use mathlib.Core.Path.{◌≡◌, refl, ap, ◌∙◌}
 use mathlib.Core.Bool.{Bool, ◌&&◌}
 use mathlib.Core.List.{List, map}
+use Rattle.std.proofs.lemmas.List.{map-id}
 use lib.ListN.{get_or, replicate}
 use lib.Dec.{eqb}
 use lib.Ieee.{Float, nan}
@@ -22,9 +23,9 @@ pub counts-by : (w : List ℕ) (n s e k : ℕ) {a b c : ℕ} → a ≡ get_or w 
 counts-by w n s e k p q r = rw (p, q, r)
 
 pub holds_by : (w packed : List ℕ) (scores : List Float) (visits : List ℕ) (block_scores : List Float) (order : List ℕ) {es₁ es₂ es₃ es₄ es₅ : List ℕ} {a b c d e : Bool}
-    → es₁ ≡ slice_at w 23 w → a ≡ held packed es₁ 0 → es₂ ≡ slice_at w 24 w → b ≡ held (map key_of scores) es₂ 4294967295 → es₃ ≡ slice_at w 25 w → c ≡ held visits es₃ 0
-    → es₄ ≡ slice_at w 26 w → d ≡ held (map key_of block_scores) es₄ 4294967295 → es₅ ≡ slice_at w 27 w → e ≡ held order es₅ 6 → a && b && c && d && e ≡ buffers_held w packed scores visits block_scores order
-holds_by w packed scores visits block_scores order p₁ a p₂ b p₃ c p₄ d p₅ e = rw (a, b, c, d, e, p₁, p₂, p₃, p₄, p₅, ← key-of-nan)
+    → es₁ ≡ slice_at w 23 w → a ≡ held (map (λ n. n) packed) es₁ 0 → es₂ ≡ slice_at w 24 w → b ≡ held (map key_of scores) es₂ 4294967295 → es₃ ≡ slice_at w 25 w → c ≡ held (map (λ n. n) visits) es₃ 0
+    → es₄ ≡ slice_at w 26 w → d ≡ held (map key_of block_scores) es₄ 4294967295 → es₅ ≡ slice_at w 27 w → e ≡ held (map (λ n. n) order) es₅ 6 → a && b && c && d && e ≡ buffers_held w packed scores visits block_scores order
+holds_by w packed scores visits block_scores order p₁ a p₂ b p₃ c p₄ d p₅ e = rw (a, b, c, d, e, map-id packed, map-id visits, map-id order, p₁, p₂, p₃, p₄, p₅, ← key-of-nan)
 
 pub found-by : (w : List ℕ) (s t : Shown) {a b : Bool} → s ≡ t → a ≡ counts_held w s.number s.lent.kept.size s.evaluated s.skipped
     → b ≡ buffers_held w s.lent.kept.packed s.lent.kept.scores s.lent.visits s.block_scores s.block_order → a && b ≡ found_as w t

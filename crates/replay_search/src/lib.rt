@@ -11,8 +11,8 @@ ghost use Rattle.search.specs.Searched.{question};
 ghost use Rattle.c_search.specs.Found.{seen};
 ghost use Rattle.replay_search.specs.Case.{question_from, lent_in, counts_held, buffers_held, found_as, found_from, searches_agree};
 
-use replay_expected::{same_bytes, same_floats, same_longs};
-use replay_words::{bytes_of, floats_of, longs_of, shorts_of, word, words_of};
+use replay_expected::same;
+use replay_words::{slice_of, word, words_of};
 
 // Whether a search is accepted and counts as recorded.
 fn counts(w: &[u32], number: u64, length: u64, evaluated: u64, skipped: u64) -> bool
@@ -35,11 +35,11 @@ fn holds(
 ) -> bool
     ensures { result ≡ buffers_held w.now packed.now scores.now visits.now block_scores.now block_order.now }
 {
-    same_longs(packed, words_of(w, 23), 0)
-        & same_floats(scores, words_of(w, 24), 0xffff_ffff)
-        & same_bytes(visits, words_of(w, 25), 0)
-        & same_floats(block_scores, words_of(w, 26), 0xffff_ffff)
-        & same_longs(block_order, words_of(w, 27), 6)
+    same(packed, words_of(w, 23), 0)
+        & same(scores, words_of(w, 24), 0xffff_ffff)
+        & same(visits, words_of(w, 25), 0)
+        & same(block_scores, words_of(w, 26), 0xffff_ffff)
+        & same(block_order, words_of(w, 27), 6)
 }
 
 // The search itself, with the kept list and the visits as they were before, and other numbers in the buffers for dots and order.
@@ -125,19 +125,19 @@ fn searches_from(
         w,
         word(w, 1) as u64,
         words_of(w, 8),
-        floats_of(w, 9, floats),
+        slice_of(w, 9, floats),
         word(w, 2) as u64,
         replay_words::float(w, 3),
         words_of(w, 10),
-        floats_of(w, 11, floats),
-        longs_of(w, 12, longs),
-        longs_of(w, 13, longs),
+        slice_of(w, 11, floats),
+        slice_of(w, 12, longs),
+        slice_of(w, 13, longs),
         words_of(w, 14),
-        longs_of(w, 15, longs),
-        shorts_of(w, 16, shorts),
-        bytes_of(w, 17, bytes),
-        floats_of(w, 18, floats),
-        floats_of(w, 19, floats),
+        slice_of(w, 15, longs),
+        slice_of(w, 16, shorts),
+        slice_of(w, 17, bytes),
+        slice_of(w, 18, floats),
+        slice_of(w, 19, floats),
         float32::value_of_key(0xffff_ffff),
         word(w, 4) as u64,
         packed,
@@ -153,9 +153,9 @@ fn searches_on(w: &[u32], longs: &[u64], floats: &[f32], shorts: &[u16], bytes: 
     let mut packed = [0u64; 8];
     let mut scores = [0.0f32; 8];
     let mut visits = [0u8; 256];
-    replay_words::fill_longs(words_of(w, 20), &mut packed);
-    replay_words::fill_floats(words_of(w, 21), &mut scores);
-    replay_words::fill_bytes(words_of(w, 22), &mut visits);
+    replay_words::fill(words_of(w, 20), &mut packed);
+    replay_words::fill(words_of(w, 21), &mut scores);
+    replay_words::fill(words_of(w, 22), &mut visits);
     searches_from(
         w,
         longs,
@@ -176,9 +176,9 @@ pub fn searches_agree(w: &[u32]) -> bool
     let mut floats = [0.0f32; 1024];
     let mut shorts = [0u16; 1024];
     let mut bytes = [0u8; 1024];
-    replay_words::fill_longs(w, &mut longs);
-    replay_words::fill_floats(w, &mut floats);
-    replay_words::fill_shorts(w, &mut shorts);
-    replay_words::fill_bytes(w, &mut bytes);
+    replay_words::fill(w, &mut longs);
+    replay_words::fill(w, &mut floats);
+    replay_words::fill(w, &mut shorts);
+    replay_words::fill(w, &mut bytes);
     searches_on(w, &longs, &floats, &shorts, &bytes)
 }

@@ -6,64 +6,58 @@ mod pages;
 mod story;
 mod text;
 
-use pages::Documents;
+use pages::{Documents, Term};
 use std::io;
 use story::Question;
-use text::{most, name};
-
-// The bay asked for, the list's first and last page, its block size, and the heap factor.
-#[derive(Clone, Copy)]
-struct Row(u64, u64, u64, u64, f32);
 
 // The searches to tell.
-const SEARCHES: [Row; 4] = [
-    Row(pages::BAY_4, 0, 8, 3, 0.75),
-    Row(pages::BAY_4, 0, 8, 3, 0.0),
-    Row(pages::BAY_6, 9, 10, 3, 0.75),
-    Row(pages::BAY_6, 9, 10, 2, 0.75),
+const SEARCHES: [Question; 4] = [
+    Question {
+        bay: Term::Bay4,
+        first: 0,
+        last: 8,
+        block_size: 3,
+        factor: 0.75,
+    },
+    Question {
+        bay: Term::Bay4,
+        first: 0,
+        last: 8,
+        block_size: 3,
+        factor: 0.0,
+    },
+    Question {
+        bay: Term::Bay6,
+        first: 9,
+        last: 10,
+        block_size: 3,
+        factor: 0.75,
+    },
+    Question {
+        bay: Term::Bay6,
+        first: 9,
+        last: 10,
+        block_size: 2,
+        factor: 0.75,
+    },
 ];
 
-// A search told, after its question where the one before was of another bay; its bay.
-fn tell_next(rt: &impl Print, row: Row, before: u64, documents: &Documents) -> io::Result<u64> {
-    let bay = row.0;
-    if bay != before {
-        let asked = name(bay);
-        println!(rt; "\nQuestion: what is planned in {asked}?   weights: {asked} 1, planned 2")?;
-    }
-    let question = Question {
-        bay,
-        first: row.1,
-        last: row.2,
-        block_size: row.3,
-        factor: row.4,
-    };
-    let ids = [0, 1, 2, 3, 4, 5, 6, 7, 8, 9, 10];
-    let end = most(
-        std::num::wrapping_add_u64(question.last, 1),
-        pages::PAGE_COUNT,
-    );
-    let first = most(question.first, end);
-    story::tell(
-        rt,
-        question,
-        &documents.offsets,
-        &documents.components,
-        &documents.values,
-        &ids[first..end],
-    )?;
-    Ok(bay)
-}
-
+// The searches told, each question before the first search of its bay.
 fn tell_all(rt: &impl Print, documents: &Documents) -> io::Result<()> {
-    let mut bay = pages::BLANK;
-    for row in SEARCHES {
-        bay = tell_next(rt, row, bay, documents)?;
+    let mut before = None;
+    for question in SEARCHES {
+        let bay = question.bay;
+        if before != Some(bay) {
+            println!(rt; "\nQuestion: what is planned in {bay}?   weights: {bay} 1, planned 2")?;
+        }
+        story::tell(rt, question, documents)?;
+        before = Some(bay);
     }
     Ok(())
 }
 
 // The pages that name a bay.
-fn say_naming(rt: &impl Print, bay: u64) -> io::Result<()> {
+fn say_naming(rt: &impl Print, bay: Term) -> io::Result<()> {
     for page in 0..pages::PAGE_COUNT as u64 {
         if pages::has(page, bay) {
             print!(rt; "{page} ")?;
@@ -74,9 +68,9 @@ fn say_naming(rt: &impl Print, bay: u64) -> io::Result<()> {
 
 fn main(rt: HostRuntime) -> io::Result<()> {
     print!(rt; "Eleven plan pages: ")?;
-    say_naming(&rt, pages::BAY_4)?;
+    say_naming(&rt, Term::Bay4)?;
     print!(rt; "name bay 4, ")?;
-    say_naming(&rt, pages::BAY_6)?;
+    say_naming(&rt, Term::Bay6)?;
     println!(rt;
         "name bay 6. Terms that matter here: bay 4, bay 6, planned.\n\
         A page's score is the sum of its terms' values times the question's weights. The two best pages are kept.\n\

@@ -1,24 +1,45 @@
 // The plan pages, and what follows from their terms.
 
-// The terms; 5 is beam, 6 panel, 7 stairs.
-pub(crate) const BAY_4: u64 = 0;
+use std::fmt;
 
-pub(crate) const BAY_6: u64 = 1;
+// The terms that a question or a state names, in the order of a page's values; behind them come beam, panel and stairs.
+#[derive(Clone, Copy, PartialEq, Eq)]
+pub(crate) enum Term {
+    Bay4,
+    Bay6,
+    Planned,
+    InProgress,
+    Completed,
+}
 
-pub(crate) const PLANNED: u64 = 2;
+impl fmt::Display for Term {
+    fn fmt<W: fmt::Write>(&self, f: &mut fmt::Formatter<W>) -> fmt::Result {
+        f.pad(match self {
+            Term::Bay4 => "bay 4",
+            Term::Bay6 => "bay 6",
+            Term::Planned => "planned",
+            Term::InProgress => "in progress",
+            Term::Completed => "completed",
+        })
+    }
+}
 
-pub(crate) const IN_PROGRESS: u64 = 3;
+// What a page says of its bay; blank where that is nothing.
+#[derive(Clone, Copy)]
+pub(crate) struct State(Option<Term>);
 
-pub(crate) const COMPLETED: u64 = 4;
+impl fmt::Display for State {
+    fn fmt<W: fmt::Write>(&self, f: &mut fmt::Formatter<W>) -> fmt::Result {
+        match self.0 {
+            Some(term) => fmt::Display::fmt(&term, f),
+            None => f.pad("blank"),
+        }
+    }
+}
 
 pub(crate) const TERMS: usize = 8;
 
-// The state of a page that has none of the three.
-pub(crate) const BLANK: u64 = TERMS as u64;
-
 pub(crate) const PAGE_COUNT: usize = 11;
-
-const CELLS: usize = PAGE_COUNT * TERMS;
 
 // The pages have so many terms in all.
 pub(crate) const TERM_COUNT: usize = 27;
@@ -47,43 +68,29 @@ pub(crate) struct Documents {
     pub(crate) values: [f32; TERM_COUNT],
 }
 
-fn value(page: u64, term: u64) -> f32 {
-    let row = page as usize;
-    let column = term as usize;
-    if row < PAGE_COUNT {
-        if column < TERMS {
-            return PAGES[row][column];
-        }
+fn value(page: u64, term: Term) -> f32 {
+    match PAGES.get(page as usize) {
+        Some(row) => row[term as usize],
+        None => 0.0,
     }
-    0.0
 }
 
-pub(crate) fn has(page: u64, term: u64) -> bool {
+pub(crate) fn has(page: u64, term: Term) -> bool {
     value(page, term) > 0.0
 }
 
-// What a page says of its bay.
-pub(crate) fn state(page: u64) -> u64 {
-    if has(page, PLANNED) {
-        return PLANNED;
+pub(crate) fn state_of(page: u64) -> State {
+    for term in [Term::Planned, Term::InProgress, Term::Completed] {
+        if has(page, term) {
+            return State(Some(term));
+        }
     }
-    if has(page, IN_PROGRESS) {
-        return IN_PROGRESS;
-    }
-    if has(page, COMPLETED) {
-        return COMPLETED;
-    }
-    BLANK
+    State(None)
 }
 
 // The sum of a page's values times the weights of a question, what is planned in a bay: 1 for the bay, 2 for planned.
-pub(crate) fn score(page: u64, bay: u64) -> f32 {
-    value(page, bay) + 2.0 * value(page, PLANNED)
-}
-
-// A term by the number that a search knows it by.
-pub(crate) fn component(term: u64) -> u32 {
-    if term < BLANK { term as u32 } else { 0 }
+pub(crate) fn score(page: u64, bay: Term) -> f32 {
+    value(page, bay) + 2.0 * value(page, Term::Planned)
 }
 
 pub(crate) fn as_documents() -> Documents {
@@ -91,12 +98,10 @@ pub(crate) fn as_documents() -> Documents {
     let mut components = [0u32; TERM_COUNT];
     let mut values = [0.0f32; TERM_COUNT];
     let mut n = 0usize;
-    for cell in 0..CELLS {
-        let page = cell / TERMS;
-        let term = cell % TERMS;
-        let x = value(page as u64, term as u64);
-        if x > 0.0 {
-            if n < TERM_COUNT {
+    for page in 0..PAGE_COUNT {
+        for term in 0..TERMS {
+            let x = PAGES[page][term];
+            if x > 0.0 && n < TERM_COUNT {
                 components[n] = term as u32;
                 values[n] = x;
                 n += 1;

@@ -1,9 +1,7 @@
 // The story of one search, in the order in which it is printed: what it found, its turns, why each page of the list that is not kept is
 // not, and what that shows. Then how the list is built and searched.
-use refusal::Refusal;
-use crate::pages;
-use crate::text::{Hundredths, name};
-use build_meaning::Result<BuiltSizes, Refusal>;
+use crate::pages::{self, Documents, Term};
+use crate::text::Hundredths;
 use configuration::{BlockingStrategy, SummarizationStrategy};
 use explain::{Fate, Turn};
 use packing::PackedPosting;
@@ -21,7 +19,7 @@ const ROOM: usize = pages::TERM_COUNT + 1;
 // What is planned in a bay, asked of a list: its first and last page, its block size, and the heap factor.
 #[derive(Clone, Copy)]
 pub(crate) struct Question {
-    pub(crate) bay: u64,
+    pub(crate) bay: Term,
     pub(crate) first: u64,
     pub(crate) last: u64,
     pub(crate) block_size: u64,
@@ -34,7 +32,7 @@ fn hundredths(x: f32) -> Hundredths {
 
 // The page at a position of the list.
 fn page_at(question: Question, position: u64) -> u64 {
-    std::num::wrapping_add_u64(question.first, position)
+    question.first.wrapping_add(position)
 }
 
 fn say_heading(rt: &impl Print, question: Question) -> io::Result<()> {
@@ -91,7 +89,7 @@ fn say_part(rt: &impl Print, heading: &str, count: u64) -> io::Result<()> {
 
 // A page by its number, its state, and its score to the hundredth below it.
 fn say_page(rt: &impl Print, page: u64, score: f32) -> io::Result<()> {
-    let state = name(pages::state(page));
+    let state = pages::state_of(page);
     let shown = hundredths(score);
     print!(rt; "    page {page:>2}  {state:<11}  score {shown}")
 }
@@ -130,7 +128,7 @@ fn say_found(
 // A turn that was taken, counted from 1: the block's score, and the bar that it had to reach, which there is once two pages are kept.
 fn say_turn(rt: &impl Print, before: u64, seen: Option<Turn>) -> io::Result<()> {
     if let Some(turn) = seen {
-        let at = std::num::wrapping_add_u64(before, 1);
+        let at = before.wrapping_add(1);
         let block = turn.block.0;
         let score = hundredths(turn.score);
         let bar = hundredths(turn.bar);
@@ -181,13 +179,12 @@ fn say_left(rt: &impl Print, page: u64, score: f32, fate: Fate, worst: f32) -> i
 }
 
 // Why a page is missed that is better than one that is kept: of the question's terms those that it has are not in its block's summary.
-fn say_missed(rt: &impl Print, page: u64, bay: u64) -> io::Result<()> {
-    let state = name(pages::state(page));
+fn say_missed(rt: &impl Print, page: u64, bay: Term) -> io::Result<()> {
+    let state = pages::state_of(page);
     let score = float32::scaled_length(pages::score(page, bay), 1);
     print!(rt; "  Page {page} is {state} and would score {score}. Its terms ")?;
     if pages::has(page, bay) {
-        let asked = name(bay);
-        print!(rt; "{asked} and ")?;
+        print!(rt; "{bay} and ")?;
     }
     println!(rt;
         "planned are not among the {SUMMARY_TERMS} that its block's summary keeps, so the\n  \
@@ -230,7 +227,7 @@ fn tell_course(
         );
         say_turn(rt, t, seen)?;
     }
-    say_part(rt, "not kept", std::num::wrapping_sub_u64(count, length))?;
+    say_part(rt, "not kept", count.wrapping_sub(length))?;
     let mut missed = count;
     for i in 0..count {
         let posting = PackedPosting(cells::at(postings, i as usize, 0));
@@ -282,10 +279,7 @@ fn search_built(
     minimums: &[f32],
     steps: &[f32],
 ) -> io::Result<()> {
-    let query_components = [
-        pages::component(question.bay),
-        pages::component(pages::PLANNED),
-    ];
+    let query_components = [question.bay as u32, Term::Planned as u32];
     let query_values = [1.0, 2.0];
     let mut length = 0u64;
     let mut packed = [0u64; KEPT];
@@ -338,40 +332,15 @@ fn search_built(
 }
 
 // The front of an array: what was built of it.
-fn front_u64(all: &[u64], count: u64) -> &[u64] {
-    let n = count as usize;
-    if n <= all.len() { &all[0..n] } else { all }
-}
-
-fn front_u32(all: &[u32], count: u64) -> &[u32] {
-    let n = count as usize;
-    if n <= all.len() { &all[0..n] } else { all }
-}
-
-fn front_u16(all: &[u16], count: u64) -> &[u16] {
-    let n = count as usize;
-    if n <= all.len() { &all[0..n] } else { all }
-}
-
-fn front_u8(all: &[u8], count: u64) -> &[u8] {
-    let n = count as usize;
-    if n <= all.len() { &all[0..n] } else { all }
-}
-
-fn front_f32(all: &[f32], count: u64) -> &[f32] {
-    let n = count as usize;
-    if n <= all.len() { &all[0..n] } else { all }
+fn front<N>(all: &[N], count: u64) -> &[N] {
+    &all[..all.len().min(count as usize)]
 }
 
 // A question put to its list, which is built and searched.
-pub(crate) fn tell(
-    rt: &impl Print,
-    question: Question,
-    offsets: &[u64],
-    components: &[u32],
-    values: &[f32],
-    ids: &[u64],
-) -> io::Result<()> {
+pub(crate) fn tell(rt: &impl Print, question: Question, documents: &Documents) -> io::Result<()> {
+    let ids = [0, 1, 2, 3, 4, 5, 6, 7, 8, 9, 10];
+    let end = ids.len().min(question.last.wrapping_add(1) as usize);
+    let first = end.min(question.first as usize);
     say_heading(rt, question)?;
     let mut postings = [0u64; ROOM];
     let mut block_offsets = [0u64; ROOM];
@@ -389,10 +358,10 @@ pub(crate) fn tell(
         SummarizationStrategy::FixedSize {
             n_components: SUMMARY_TERMS,
         },
-        offsets,
-        components,
-        values,
-        ids,
+        &documents.offsets,
+        &documents.components,
+        &documents.values,
+        &ids[first..end],
         &[],
         &mut postings,
         &mut block_offsets,
@@ -412,20 +381,17 @@ pub(crate) fn tell(
             search_built(
                 rt,
                 question,
-                offsets,
-                components,
-                values,
-                front_u64(&postings, sizes.postings),
-                front_u64(&block_offsets, sizes.block_offsets),
-                front_u32(&summary_components, sizes.summary_components),
-                front_u64(
-                    &component_offsets,
-                    std::num::wrapping_add_u64(sizes.summary_components, 1),
-                ),
-                front_u16(&summary_ids, sizes.entries),
-                front_u8(&codes, sizes.entries),
-                front_f32(&minimums, sizes.summaries),
-                front_f32(&steps, sizes.summaries),
+                &documents.offsets,
+                &documents.components,
+                &documents.values,
+                front(&postings, sizes.postings),
+                front(&block_offsets, sizes.block_offsets),
+                front(&summary_components, sizes.summary_components),
+                front(&component_offsets, sizes.summary_components.wrapping_add(1)),
+                front(&summary_ids, sizes.entries),
+                front(&codes, sizes.entries),
+                front(&minimums, sizes.summaries),
+                front(&steps, sizes.summaries),
             )
         }
     }

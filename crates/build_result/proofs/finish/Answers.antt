@@ -82,7 +82,7 @@ pub shape_of-order : goal.shape_of-order
 shape_of-order c = c.clear.auto.numbers
 
 pub shape_of-blocks : goal.shape_of-blocks
-shape_of-blocks c = c.clear_u64-in-Ok.auto.numbers
+shape_of-blocks c = c.clear-in-Ok.auto.numbers
 
 pub shape_of-counts : goal.shape_of-counts
 shape_of-counts c = c.write-answer.auto.places
@@ -111,7 +111,7 @@ returns-in-Ok c =
           c.write-answer.new.codes c.write-answer.new.minimums
           c.write-answer.new.steps) c.write-answer.new.keys
           c.write-answer.new.places c.write-answer.new.maxima
-          c.write-answer.new.entry_counts c.clear.new.numbers c.clear_u64-in-Ok.new.numbers
-          c.write-answer.ensures.left c.clear.ensures c.clear_u64-in-Ok.ensures;
+          c.write-answer.new.entry_counts c.clear.new.numbers c.clear-in-Ok.new.numbers
+          c.write-answer.ensures.left c.clear.ensures c.clear-in-Ok.ensures;
       slots = slots-cleared a.made a.slots.now c.write-answer.new.store _ c.in-Ok.is c.write-answer.ensures.store;
     }

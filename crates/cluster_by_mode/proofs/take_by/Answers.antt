@@ -25,7 +25,7 @@ pub shape_of-sums-in-RandomKmeans : goal.shape_of-sums-in-RandomKmeans
 shape_of-sums-in-RandomKmeans c = c.assign.auto.sums
 
 pub shape_of-keys-in-RandomKmeans : goal.shape_of-keys-in-RandomKmeans
-shape_of-keys-in-RandomKmeans c = c.clear_u64-in-RandomKmeans.auto.numbers
+shape_of-keys-in-RandomKmeans c = c.clear-in-RandomKmeans.auto.numbers
 
 pub shape_of-taken-in-RandomKmeans : goal.shape_of-taken-in-RandomKmeans
 shape_of-taken-in-RandomKmeans c = c.assign.auto.taken
@@ -44,7 +44,7 @@ returns-in-RandomKmeans c =
       slots = f.ensures.slots;
       weights = f.ensures.weights;
       sums = f.ensures.sums;
-      keys = c.clear_u64-in-RandomKmeans.ensures;
+      keys = c.clear-in-RandomKmeans.ensures;
     }
 
 pub shape_of-competing-in-RandomKmeansInvertedIndexApprox : goal.shape_of-competing-in-RandomKmeansInvertedIndexApprox

@@ -27,11 +27,11 @@ slice_bounds-assign_both-end c =
     sym (length-take-le c.min-n.result c.args.ids.now (omega (arith, c.min-n.ensures)))
 
 pub slice_bounds-assign_both-end-2 : goal.slice_bounds-assign_both-end-2
-slice_bounds-assign_both-end-2 c = omega (arith, c.shorter-m.ensures)
+slice_bounds-assign_both-end-2 c = omega (arith, c.min-m.ensures)
 
 pub slice_bounds-assign_both-end-3 : goal.slice_bounds-assign_both-end-3
 slice_bounds-assign_both-end-3 c =
-    sym (length-take-le c.shorter-m.result c.args.sums.now (omega (arith, c.shorter-m.ensures)))
+    sym (length-take-le c.min-m.result c.args.sums.now (omega (arith, c.min-m.ensures)))
 
 pub assign_both-requires : goal.assign_both-requires
 assign_both-requires c =
@@ -56,7 +56,7 @@ shape_of-weights c =
 pub shape_of-sums : goal.shape_of-sums
 shape_of-sums c =
     c.clear.auto.sums ∙ front_length c.args.sums.now c.assign_both.new.sums
-    c.shorter-m.result (omega (arith, c.shorter-m.ensures)) c.assign_both.auto.sums
+    c.min-m.result (omega (arith, c.min-m.ensures)) c.assign_both.auto.sums
 
 pub shape_of-taken : goal.shape_of-taken
 shape_of-taken c =
@@ -67,7 +67,7 @@ returns c =
     let a = c.args in
     let f = c.assign_both in
     let g = c.clear in
-    let m = c.shorter-m in
+    let m = c.min-m in
     let n = c.min-n in
     let d = documents a.offsets.now a.components.now a.values.now in
     let l : length (take m.result a.sums.now) ≡ min (length a.centroids.now) (length a.sums.now) = length-take-le m.result a.sums.now (omega (arith, m.ensures)) ∙ m.ensures in

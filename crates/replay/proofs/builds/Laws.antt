@@ -1,5 +1,6 @@
 -- What the parts of a recorded build come to, over plain variables.
-use Rattle.std.proofs.Common.{◌≡◌, ℕ, Bool, ◌&&◌, eqb, List, length, get_or, ap, ◌∙◌}
+use Rattle.std.proofs.Common.{◌≡◌, ℕ, Bool, ◌&&◌, eqb, List, length, get_or, map, ap, ◌∙◌}
+use Rattle.std.proofs.lemmas.List.{map-id}
 use lib.Ieee.{Float}
 use Rattle.float32.specs.Key.{value_of}
 use Rattle.configuration.specs.declared.BlockingStrategy.{BlockingStrategy}
@@ -28,6 +29,10 @@ four p q r s = rw (p, q, r, s)
 
 pub held_by : (xs : List ℕ) {es fs : List ℕ} (rest : ℕ) {b : Bool} → es ≡ fs → b ≡ held xs es rest → b ≡ held xs fs rest
 held_by xs rest p e = e ∙ ap (λ l. held xs l rest) p
+
+-- numbers that stand for themselves
+pub held-as : (xs : List ℕ) {es fs : List ℕ} (rest : ℕ) {b : Bool} → es ≡ fs → b ≡ held (map (λ n. n) xs) es rest → b ≡ held xs fs rest
+held-as xs {fs = fs} rest p e = held_by (map (λ n. n) xs) rest p e ∙ ap (λ l. held l fs rest) (map-id xs)
 
 pub sizes-by : (w : List ℕ) (z : InNumbers) {n p o c e s : ℕ} {us vs xs ys zs : List ℕ}
     → numbers n p o c e s ≡ z → us ≡ slice_at w 21 w → vs ≡ slice_at w 22 w → xs ≡ slice_at w 23 w → ys ≡ slice_at w 25 w → zs ≡ slice_at w 27 w

@@ -4,9 +4,9 @@ ghost use Rattle.build_meaning.specs.Building.{outputs, in_numbers};
 ghost use Rattle.build_small.specs.Short.{made};
 ghost use Rattle.replay.specs.Case.{sizes_held, numbers_held, entries_held, agreed};
 
+use build_meaning::BuiltSizes;
 use refusal::Refusal;
-use build_meaning::Result<BuiltSizes, Refusal>;
-use replay_expected::{same_bytes, same_floats, same_longs, same_shorts, same_words};
+use replay_expected::same;
 use replay_words::words_of;
 
 // Whether the build was accepted, and as many numbers stand in front of the outputs as the original has.
@@ -44,20 +44,20 @@ fn numbers(
 ) -> bool
     ensures { result ≡ numbers_held w.now postings.now offsets.now components.now component_offsets.now }
 {
-    same_longs(postings, words_of(w, 21), 5)
-        & same_longs(offsets, words_of(w, 22), 6)
-        & same_words(components, words_of(w, 23), 7)
-        & same_longs(component_offsets, words_of(w, 24), 8)
+    same(postings, words_of(w, 21), 5)
+        & same(offsets, words_of(w, 22), 6)
+        & same(components, words_of(w, 23), 7)
+        & same(component_offsets, words_of(w, 24), 8)
 }
 
 // Whether the summaries' entries and their scales are the original's.
 fn entries(w: &[u32], ids: &[u16], codes: &[u8], minimums: &[f32], steps: &[f32]) -> bool
     ensures { result ≡ entries_held w.now ids.now codes.now minimums.now steps.now }
 {
-    same_shorts(ids, words_of(w, 25), 9)
-        & same_bytes(codes, words_of(w, 26), 10)
-        & same_floats(minimums, words_of(w, 27), 0xc130_0000)
-        & same_floats(steps, words_of(w, 28), 0xc130_0000)
+    same(ids, words_of(w, 25), 9)
+        & same(codes, words_of(w, 26), 10)
+        & same(minimums, words_of(w, 27), 0xc130_0000)
+        & same(steps, words_of(w, 28), 0xc130_0000)
 }
 
 // Whether the build was accepted, and the outputs hold the original's results and past them what they held before.

@@ -4,4 +4,4 @@ use Rattle.replay_search.proofs.searches_agree.Goals as goal
 
 pub returns : goal.returns
 returns c =
-    agrees-by c.args.w.now c.fill_longs.ensures c.fill_floats.ensures c.fill_shorts.ensures c.fill_bytes.ensures c.searches_on.ensures
+    agrees-by c.args.w.now c.fill.ensures c.fill-2.ensures c.fill-3.ensures c.fill-4.ensures c.searches_on.ensures

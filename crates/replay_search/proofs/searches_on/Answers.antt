@@ -4,5 +4,5 @@ use Rattle.replay_search.proofs.searches_on.Goals as goal
 
 pub returns : goal.returns
 returns c =
-    on-by c.args.w.now _ c.words_of.ensures c.fill_longs.ensures c.words_of-2.ensures c.fill_floats.ensures
-    c.words_of-3.ensures c.fill_bytes.ensures c.searches_from.ensures
+    on-by c.args.w.now _ c.words_of.ensures c.fill.ensures c.words_of-2.ensures c.fill-2.ensures
+    c.words_of-3.ensures c.fill-3.ensures c.searches_from.ensures

@@ -6,5 +6,5 @@ pub returns : goal.returns
 returns c =
     let a = c.args in
     term-added a.summary_ids.now a.codes.now a.n a.place a.c a.value a.summary_components.now a.component_offsets.now a.minimums.now a.steps.now
-    c.range_at-range.result.from c.range_at-range.result.to _ _ a.block_scores.now _ c.range_at-range.ensures c.shorter.ensures
+    c.range_at-range.result.from c.range_at-range.result.to _ _ a.block_scores.now _ c.range_at-range.ensures c.min.ensures
     c.min-end.ensures c.add_entries.ensures

@@ -30,6 +30,6 @@ returns c =
     let a = c.args in
     let l = c.loop-c in
     let all = arrays a.summary_components.now a.component_offsets.now a.summary_ids.now a.codes.now a.minimums.now a.steps.now in
-    all-scored a.query_components.now a.query_values.now all c.min-n.result c.shorter.result a.block_scores.now c.clear.new.block_scores
-    l.block_scores c.shorter.ensures c.min-n.ensures c.clear.ensures
+    all-scored a.query_components.now a.query_values.now all c.min-n.result c.min.result a.block_scores.now c.clear.new.block_scores
+    l.block_scores c.min.ensures c.min-n.ensures c.clear.ensures
     (sym (query-end c.min-n.result all _ _ l.block_scores (either_empty_from_Zip _ c.next.new.self _ c.in-None.is c.next.ensures.steps)) ∙ l.invariant.2)

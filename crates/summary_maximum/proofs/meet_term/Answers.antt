@@ -15,7 +15,7 @@ returns-then-stands_at c =
 pub returns-then-count-keys : goal.returns-then-count-keys
 returns-then-count-keys c =
     let a = c.args in met-below a.limit (met a.count a.keys.now a.places.now a.maxima.now) _ a.component a.value c.if-limit-c.false (meets-added a.count a.keys.now a.places.now a.maxima.now a.component a.value
-    c.at-place.result c.stands_at.result c.at-place.ensures c.stands_at.ensures _ _ c.if-stands_at.false c.if-count-keys.true c.put.ensures c.put-2.ensures)
+    c.at-place.result c.stands_at.result c.at-place.ensures c.stands_at.ensures _ _ c.if-stands_at.false c.if-count-keys.true c.put.ensures c.put-then-count-keys.ensures)
 
 pub returns : goal.returns
 returns c =

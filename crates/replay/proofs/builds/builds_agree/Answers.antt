@@ -4,4 +4,4 @@ use Rattle.replay.proofs.builds.builds_agree.Goals as goal
 
 pub returns : goal.returns
 returns c =
-    agrees-by c.args.w.now _ _ c.fill_longs.ensures c.fill_floats.ensures c.builds_from.ensures
+    agrees-by c.args.w.now _ _ c.fill.ensures c.fill-2.ensures c.builds_from.ensures
