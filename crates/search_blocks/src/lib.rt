@@ -62,8 +62,9 @@ fn take_turn(
     )
 }
 
-// So many turns, one after another: of the blocks in the order given as far as it goes, and then in number order. It takes time in
-// proportion to the terms of the postings evaluated, and a few steps for each posting passed over and each block skipped.
+// So many turns, one after another: of the blocks in the order given as far as it goes, and then in number order. The answer is the
+// counts after them, or the stop at a posting. It takes time in proportion to the terms of the postings evaluated, and a few steps for
+// each posting passed over and each block skipped.
 pub fn sweep(
     table: &[f32; 32768],
     sieve: &[u8; 4096],

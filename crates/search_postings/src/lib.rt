@@ -88,7 +88,7 @@ fn read_range(
 }
 
 // One posting: passed over where its start was visited; else its range is read, and a scored one is kept if it is among the k best,
-// and its start is marked. Nothing changes where it stops the search.
+// and its start is marked. The answer is the counts after it, or the stop at it; nothing changes where it stops the search.
 fn evaluate(
     narrow: bool,
     table: &[f32; 32768],
@@ -144,8 +144,8 @@ fn evaluate(
     }
 }
 
-// The next posting, or the next two at a time where there are two before the stop and the table is expected to have a place for each of their
-// components.
+// A step over the next posting, or over the next two at a time where there are two before the stop and the table is expected to have a
+// place for each of their components.
 fn step_on(
     narrow: bool,
     table: &[f32; 32768],
@@ -218,9 +218,9 @@ fn step_on(
     })
 }
 
-// The postings from one position to below another, as far as there are any, one after another. Some at a time are looked at ahead, so
-// that their terms are on their way when they are read; what that says changes only the way of reading. It takes time in proportion to
-// the terms of the postings evaluated, and a few steps for each one passed over.
+// The postings from one position to below another, as far as there are any, one after another: the counts after them, or the stop at one
+// of them. Some at a time are looked at ahead, so that their terms are on their way when they are read; what that says changes only the
+// way of reading. It takes time in proportion to the terms of the postings evaluated, and a few steps for each one passed over.
 pub fn probe_postings(
     table: &[f32; 32768],
     sieve: &[u8; 4096],

@@ -61,20 +61,11 @@ fn evaluate_known(
     ensures { went_on result (lends (lent length.new packed.new scores.new) visits.new)
         ≡ held_known k posting.0 score counts (lends (lent length.old packed.old scores.old) visits.old) }
 {
-    let range = posting.unpack();
-    if search_steps::is_visited(visits, range.start) {
+    let start = posting.unpack().start;
+    if search_steps::is_visited(visits, start) {
         return counts;
     }
-    search_held::keep_found(
-        k,
-        posting,
-        range.start,
-        score,
-        length,
-        packed,
-        scores,
-        visits,
-    );
+    search_held::keep_found(k, posting, start, score, length, packed, scores, visits);
     Counts {
         evaluated: search_steps::one_more(counts.evaluated),
         skipped: counts.skipped,
