@@ -1,4 +1,5 @@
 -- The skip test, a block's turn and the turns one after another, by the tests that were passed.
+use Rattle.std.specs.Prelude.{Result, Ok, Err}
 use Prim.Native.Nat.{ℕ, suc, ◌+◌, ◌-◌, ◌≤◌, ◌<◌}
 use native.Mathlib.Omega.{arith}
 use native.Mathlib.Nat.{sub-zero}
@@ -9,12 +10,10 @@ use mathlib.Core.List.{List, [], ◌∷◌, map}
 use lib.ListN.{get_or}
 use lib.Ieee.{Float}
 use Rattle.sequences.specs.Lists.{from}
-use Rattle.refusal.specs.declared.Refusal.{Refusal}
 use Rattle.search_steps.specs.Skips.{skips_at}
 use Rattle.search_held.specs.declared.Block.{Block}
 use Rattle.search_postings.specs.declared.Counts.{Counts}
-use Rattle.search_postings.specs.declared.Turn.{Turn}
-use Rattle.search_postings.specs.declared.Turn.TheVariants.{On, Stopped}
+use Rattle.search_postings.specs.declared.Stop.{Stop}
 use Rattle.search_postings.specs.declared.RangeReading.{RangeReading}
 use Rattle.search_postings.specs.Postings.{Lends, Turned, turned, one_more, counts, held_probe}
 use Rattle.search_blocks.specs.Turns.{listed, worst_held, held_skips, places_of, held_turn, block_at, held_sweep}
@@ -27,7 +26,7 @@ module _ (k : ℕ) (f x : Float) (n : ℕ) (xs : List Float) where
 
 -- ---- a block's turn
 module _ (k : ℕ) (f : Float) (read : ℕ → RangeReading) (ps : List ℕ) (b : Block) (c : Counts) (l : Lends) where
-  pub turn-skips : held_skips k f b.score l.kept.size l.kept.scores ≡ true → (n : ℕ) → n ≡ one_more c.skipped → turned (On (counts c.evaluated n)) l ≡ held_turn k f read ps b c l
+  pub turn-skips : held_skips k f b.score l.kept.size l.kept.scores ≡ true → (n : ℕ) → n ≡ one_more c.skipped → turned (Ok (counts c.evaluated n)) l ≡ held_turn k f read ps b c l
   unfolding held_turn
   turn-skips h n o = rw (h, o)
 
@@ -37,15 +36,15 @@ module _ (k : ℕ) (f : Float) (read : ℕ → RangeReading) (ps : List ℕ) (b 
 
 -- ---- blocks, one after another: the first of those that are left has its turn
 module _ (k : ℕ) (f : Float) (read : ℕ → RangeReading) (ps os : List ℕ) (xs : List Float) (b : ℕ) (rest all : List ℕ) (is : all ≡ b ∷ rest) (c : Counts) (l : Lends) (q : Block) (at : q ≡ block_at os xs b) where
-  pub sweep-on : (t : Turn) (m : Lends) (d : Counts) → t ≡ On d → turned t m ≡ held_turn k f read ps q c l → held_sweep k f read ps os xs rest d m ≡ held_sweep k f read ps os xs all c l
+  pub sweep-on : (t : Result Counts Stop) (m : Lends) (d : Counts) → t ≡ Ok d → turned t m ≡ held_turn k f read ps q c l → held_sweep k f read ps os xs rest d m ≡ held_sweep k f read ps os xs all c l
   unfolding held_sweep
   sweep-on t m d g e = rw (is, ← at, ← e, g)
 
-  pub sweep-stop : (t : Turn) (m : Lends) (r : Refusal) (j : ℕ) → t ≡ Stopped r j → turned t m ≡ held_turn k f read ps q c l → turned (Stopped r j) m ≡ held_sweep k f read ps os xs all c l
+  pub sweep-stop : (t : Result Counts Stop) (m : Lends) (s : Stop) → t ≡ Err s → turned t m ≡ held_turn k f read ps q c l → (r : Result Counts Stop) → r ≡ Err s → turned r m ≡ held_sweep k f read ps os xs all c l
   unfolding held_sweep
-  sweep-stop t m r j g e = rw (is, ← at, ← e, g)
+  sweep-stop t m s g e r h = rw (is, ← at, ← e, g, h)
 
-pub sweep-end : (k : ℕ) (f : Float) (read : ℕ → RangeReading) (ps os : List ℕ) (xs : List Float) (all : List ℕ) (c : Counts) (l : Lends) → all ≡ [] → turned (On c) l ≡ held_sweep k f read ps os xs all c l
+pub sweep-end : (k : ℕ) (f : Float) (read : ℕ → RangeReading) (ps os : List ℕ) (xs : List Float) (all : List ℕ) (c : Counts) (l : Lends) → all ≡ [] → turned (Ok c) l ≡ held_sweep k f read ps os xs all c l
 unfolding held_sweep
 sweep-end k f read ps os xs all c l e = rw e
 

@@ -9,7 +9,7 @@ ghost use Rattle.search_postings.specs.Postings.{lends, turned, counts as counte
 ghost use Rattle.search_blocks.specs.Turns.{worst_held, listed, held_turn, held_sweep};
 
 use search_held::Block;
-use search_postings::{Counts, Turn};
+use search_postings::{Counts, Stop};
 
 // A block's turn. The test is made with the worst of what is kept now; a skipped block marks nothing.
 fn take_turn(
@@ -29,7 +29,7 @@ fn take_turn(
     scores: &mut [f32],
     visits: &mut [u8],
     counts: Counts,
-) -> Turn
+) -> Result<Counts, Stop>
     requires { worst ≡ worst_held length.old scores.old }
     ensures { turned result (lends (lent length.new packed.new scores.new) visits.new)
         ≡ held_turn k factor (through_table table.now sieve.now query_components.now query_values.now components.now values.now)
@@ -37,7 +37,7 @@ fn take_turn(
 {
     let n = *length;
     if search_steps::skips(k, factor, block.score, n, worst) {
-        return Turn::On(Counts {
+        return Ok(Counts {
             evaluated: counts.evaluated,
             skipped: search_steps::one_more(counts.skipped),
         });
@@ -62,8 +62,9 @@ fn take_turn(
     )
 }
 
-// So many turns, one after another: of the blocks in the order given as far as it goes, and then in number order. It takes time in
-// proportion to the terms of the postings evaluated, and a few steps for each posting passed over and each block skipped.
+// So many turns, one after another: of the blocks in the order given as far as it goes, and then in number order. The answer is the
+// counts after them, or the stop at a posting. It takes time in proportion to the terms of the postings evaluated, and a few steps for
+// each posting passed over and each block skipped.
 pub fn sweep(
     table: &[f32; 32768],
     sieve: &[u8; 4096],
@@ -82,7 +83,7 @@ pub fn sweep(
     packed: &mut [u64],
     scores: &mut [f32],
     visits: &mut [u8],
-) -> Turn
+) -> Result<Counts, Stop>
     ensures { turned result (lends (lent length.new packed.new scores.new) visits.new)
         ≡ held_sweep k factor (through_table table.now sieve.now query_components.now query_values.now components.now values.now)
         postings.now block_offsets.now block_scores.now (listed block_order.now turns) (counted 0 0)
@@ -95,7 +96,7 @@ pub fn sweep(
     let mut worst = search_held::worst_kept(*length, scores);
     for i in 0..turns {
         let b = search_held::block_at(block_offsets, block_scores, block_order, i);
-        let t = take_turn(
+        c = take_turn(
             table,
             sieve,
             query_components,
@@ -112,16 +113,8 @@ pub fn sweep(
             scores,
             visits,
             c,
-        );
-        match t {
-            Turn::On(d) => {
-                c = d;
-            }
-            Turn::Stopped { reason, position } => {
-                return Turn::Stopped { reason, position };
-            }
-        }
+        )?;
         worst = search_held::worst_kept(*length, scores);
     }
-    Turn::On(c)
+    Ok(c)
 }

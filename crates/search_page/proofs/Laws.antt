@@ -1,4 +1,5 @@
 -- The parts of a reading, place by place as the loops go.
+use Rattle.std.specs.Prelude.{Some, None}
 use mathlib.Core.Path.{◌≡◌, refl, sym, ap, ◌∙◌}
 use mathlib.Core.List.{List, [], ◌∷◌}
 use mathlib.Core.Bool.{Bool, true, false, ◌&&◌, cond}
@@ -14,8 +15,7 @@ use Rattle.sequences.specs.Lists.{every}
 use Rattle.sequences.specs.Laws.Lists.{both}
 use Rattle.documents.specs.Checks.{slices_hold, slices_hold_below}
 use Rattle.documents.specs.Laws.Documents.{slices-even, slices-below, slices-below-none, slices-below-last}
-use Rattle.search_page.specs.declared.Pair.TheVariants.{Scores, Apart}
-use Rattle.search_page.specs.declared.Reading.TheVariants.{Breaks, Score}
+use Rattle.search_page.specs.declared.Scores.{Scores}
 use Rattle.search_page.specs.declared.Sum.{Sum}
 use Rattle.search_page.specs.Through.{laying, laid_sum, marking, sum_of, belows, sought, looked, stepped, through, last_fits, read_through, read_two}
 
@@ -136,15 +136,15 @@ pub below-even : (cs : List ℕ) (vs : List Float) → slices_hold_below 32768 c
 below-even cs vs h = slices-even cs vs (both (slices_hold cs vs) (every (λ c. ltb c 32768) cs) (sym (slices-below 32768 cs vs) ∙ h)).0
 
 module _ (table : List Float) (sieve qs : List ℕ) (ws : List Float) (cs : List ℕ) (vs : List Float) where
-  pub reads-laid : slices_hold_below 32768 cs vs ≡ true → (y : Float) → y ≡ laid_sum table cs vs (of_bits binary32 0) → Score y ≡ read_through table sieve qs ws cs vs
+  pub reads-laid : slices_hold_below 32768 cs vs ≡ true → (y : Float) → y ≡ laid_sum table cs vs (of_bits binary32 0) → Some y ≡ read_through table sieve qs ws cs vs
   unfolding read_through
-  reads-laid h y e = rw h (ap Score e)
+  reads-laid h y e = rw h (ap Some e)
 
-  pub reads : slices_hold_below 32768 cs vs ≡ false → slices_hold cs vs ≡ true → (y : Float) → y ≡ (through sieve qs ws cs vs (sum_of (of_bits binary32 0) 0)).total → Score y ≡ read_through table sieve qs ws cs vs
+  pub reads : slices_hold_below 32768 cs vs ≡ false → slices_hold cs vs ≡ true → (y : Float) → y ≡ (through sieve qs ws cs vs (sum_of (of_bits binary32 0) 0)).total → Some y ≡ read_through table sieve qs ws cs vs
   unfolding read_through
-  reads b h y e = rw (b, h) (ap Score e)
+  reads b h y e = rw (b, h) (ap Some e)
 
-  pub breaks : slices_hold_below 32768 cs vs ≡ false → slices_hold cs vs ≡ false → Breaks ≡ read_through table sieve qs ws cs vs
+  pub breaks : slices_hold_below 32768 cs vs ≡ false → slices_hold cs vs ≡ false → None ≡ read_through table sieve qs ws cs vs
   unfolding read_through
   breaks b h = rw (b, h)
 
@@ -156,11 +156,11 @@ module _ (table : List Float) (cs : List ℕ) (vs : List Float) (ds : List ℕ) 
   pub second-even : (a && b) ≡ true → length ds ≡ length ws
   second-even h = below-even ds ws (sym f ∙ (both a b h).1)
 
-  pub reads_two : (a && b) ≡ true → (x y : Float) → x ≡ laid_sum table cs vs (of_bits binary32 0) → y ≡ laid_sum table ds ws (of_bits binary32 0) → Scores x y ≡ read_two table cs vs ds ws
+  pub reads_two : (a && b) ≡ true → (s : Scores) → s.one ≡ laid_sum table cs vs (of_bits binary32 0) → s.two ≡ laid_sum table ds ws (of_bits binary32 0) → Some s ≡ read_two table cs vs ds ws
   unfolding read_two
-  reads_two h x y g i = rw (← e, ← f, h, g, i)
+  reads_two h s g i = rw (← e, ← f, h, ← g, ← i)
 
-  pub reads-apart : (a && b) ≡ false → Apart ≡ read_two table cs vs ds ws
+  pub reads-apart : (a && b) ≡ false → None ≡ read_two table cs vs ds ws
   unfolding read_two
   reads-apart h = rw (← e, ← f, h)
 
@@ -179,11 +179,11 @@ fits_below cs vs h = at (eqb (length cs) 0) refl
     at false e = let n = eqb-false (length cs) 0 e in slices-below-last 32768 cs vs h (omega (arith, n)) ∙ fits_last cs n
 
 module _ (table : List Float) (sieve qs : List ℕ) (ws : List Float) (cs : List ℕ) (vs : List Float) where
-  pub breaks-wide : slices_hold cs vs ≡ false → Breaks ≡ read_through table sieve qs ws cs vs
+  pub breaks-wide : slices_hold cs vs ≡ false → None ≡ read_through table sieve qs ws cs vs
   breaks-wide h = breaks table sieve qs ws cs vs (slices-below 32768 cs vs ∙ ap (λ b. b && every (λ c. ltb c 32768) cs) h) h
 
-  pub reads-laid-wide : slices_hold cs vs ≡ true → last_fits cs ≡ true → (y : Float) → y ≡ laid_sum table cs vs (of_bits binary32 0) → Score y ≡ read_through table sieve qs ws cs vs
+  pub reads-laid-wide : slices_hold cs vs ≡ true → last_fits cs ≡ true → (y : Float) → y ≡ laid_sum table cs vs (of_bits binary32 0) → Some y ≡ read_through table sieve qs ws cs vs
   reads-laid-wide h f = reads-laid table sieve qs ws cs vs (fits_below cs vs h ∙ f)
 
-  pub reads-wide : slices_hold cs vs ≡ true → last_fits cs ≡ false → (y : Float) → y ≡ (through sieve qs ws cs vs (sum_of (of_bits binary32 0) 0)).total → Score y ≡ read_through table sieve qs ws cs vs
+  pub reads-wide : slices_hold cs vs ≡ true → last_fits cs ≡ false → (y : Float) → y ≡ (through sieve qs ws cs vs (sum_of (of_bits binary32 0) 0)).total → Some y ≡ read_through table sieve qs ws cs vs
   reads-wide h f = reads table sieve qs ws cs vs (fits_below cs vs h ∙ f) h

@@ -1,13 +1,10 @@
 -- A page's terms taken one by one, with the query laid out in a table or through a sieve, for any table, sieve and query: what the program
 -- does. Laws/Reads has what it comes to.
-use Rattle.std.specs.Prelude.{List, [], ◌∷◌, Bool, ◌&&◌, ◌||◌, cond, ℕ, suc, ◌+◌, ◌-◌, ◌%◌, length, get_or, drop, set, replicate, eqb, ltb, Float}
+use Rattle.std.specs.Prelude.{List, [], ◌∷◌, Bool, ◌&&◌, ◌||◌, cond, ℕ, suc, ◌+◌, ◌-◌, ◌%◌, length, get_or, drop, set, replicate, eqb, ltb, Float, Option, Some, None}
 use Rattle.std.specs.Float.{nan, binary32}
 use Rattle.std.specs.Float.Ieee.{of_bits, add, mul}
 use Rattle.documents.specs.Checks.{slices_hold, slices_hold_below}
-use Rattle.search_page.specs.declared.Reading.{Reading}
-use Rattle.search_page.specs.declared.Reading.TheVariants.{Breaks, Score}
-use Rattle.search_page.specs.declared.Pair.{Pair}
-use Rattle.search_page.specs.declared.Pair.TheVariants.{Scores, Apart}
+use Rattle.search_page.specs.declared.Scores.{Scores}
 use Rattle.search_page.specs.declared.Sum.{Sum}
 
 -- ---- the table: the weight of each component below 32,768 at its own place
@@ -66,12 +63,15 @@ through sieve qs ws (c ∷ cs) (v ∷ vs) s = through sieve qs ws cs vs (stepped
 abbrev pub last_fits : List ℕ → Bool
 last_fits cs = eqb (length cs) 0 || ltb (get_or cs (length cs - 1) 0) 32768
 
-unfoldable pub read_through : List Float → List ℕ → List ℕ → List Float → List ℕ → List Float → Reading
+unfoldable pub read_through : List Float → List ℕ → List ℕ → List Float → List ℕ → List Float → Option Float
 read_through table sieve qs ws cs vs =
-    cond (slices_hold_below 32768 cs vs) (Score (laid_sum table cs vs (of_bits binary32 0)))
-    (cond (slices_hold cs vs) (Score (through sieve qs ws cs vs (sum_of (of_bits binary32 0) 0)).total) Breaks)
+    cond (slices_hold_below 32768 cs vs) (Some (laid_sum table cs vs (of_bits binary32 0)))
+    (cond (slices_hold cs vs) (Some (through sieve qs ws cs vs (sum_of (of_bits binary32 0) 0)).total) None)
 
 -- ---- two pages at a time: both by the table, or neither
-unfoldable pub read_two : List Float → List ℕ → List Float → List ℕ → List Float → Pair
+abbrev pub scores_of : Float → Float → Scores
+scores_of x y = record { one = x; two = y }
+
+unfoldable pub read_two : List Float → List ℕ → List Float → List ℕ → List Float → Option Scores
 read_two table cs vs ds ws =
-    cond (slices_hold_below 32768 cs vs && slices_hold_below 32768 ds ws) (Scores (laid_sum table cs vs (of_bits binary32 0)) (laid_sum table ds ws (of_bits binary32 0))) Apart
+    cond (slices_hold_below 32768 cs vs && slices_hold_below 32768 ds ws) (Some (scores_of (laid_sum table cs vs (of_bits binary32 0)) (laid_sum table ds ws (of_bits binary32 0)))) None

@@ -6,25 +6,11 @@ ghost use Rattle.std.specs.Float.{nan, binary32};
 ghost use Rattle.std.specs.Float.Ieee.{of_bits, add, mul};
 ghost use Rattle.search_page.specs.Through.{laying, laid_sum, sieve_of, sought, looked, through, sum_of, last_fits, read_through, read_two};
 
-// What reading a page says: its terms break their rules (14), or its score.
-#[derive(Drop)]
-pub enum Reading {
-    Breaks,
-    Score(f32),
-}
-
-// What reading two pages at a time says: the score of each where the table has a place for every component of both, else nothing.
-#[derive(Drop)]
-pub enum Pair {
-    Scores { one: f32, two: f32 },
-    Apart,
-}
-
-// The sums of two pages.
-#[derive(Drop)]
-struct Sums {
-    one: f32,
-    two: f32,
+// The scores of two pages.
+#[derive(Clone, Copy)]
+pub struct Scores {
+    pub one: f32,
+    pub two: f32,
 }
 
 // A sum on its way, and the place in the query from which the next component is looked up.
@@ -287,7 +273,7 @@ fn laid_two(
     values: &[f32],
     others: &[u32],
     other_values: &[f32],
-) -> Sums
+) -> Scores
     requires components_len { length components.now ≡ length values.now }
     requires others_len { length others.now ≡ length other_values.now }
     ensures one { result.one ≡ laid_sum table.now components.now values.now (of_bits binary32 0) }
@@ -302,7 +288,7 @@ fn laid_two(
     }
     let one = laid_rest(table, components, values, n, a);
     let two = laid_rest(table, others, other_values, n, b);
-    Sums { one, two }
+    Scores { one, two }
 }
 
 // Whether rising components all have a place in the table: the last one decides.
@@ -317,8 +303,8 @@ fn fits_table(components: &[u32]) -> bool
     components[last] < 32768
 }
 
-// A page's reading where its components are expected in the table: whether they are is checked with its terms, and only where they are
-// not it is looked whether the terms hold at all.
+// A page's score where its components are expected in the table, or nothing where its terms break their rules (14): whether they are is
+// checked with its terms, and only where they are not it is looked whether the terms hold at all.
 fn read_narrow(
     table: &[f32; 32768],
     sieve: &[u8; 4096],
@@ -326,18 +312,18 @@ fn read_narrow(
     values: &[f32],
     query_components: &[u32],
     query_values: &[f32],
-) -> Reading
+) -> Option<f32>
     ensures { result ≡ read_through table.now sieve.now query_components.now query_values.now components.now values.now }
 {
     if document_checks::slices_hold_below(32768, components, values) {
         let laid = laid_sum(table, components, values);
-        return Reading::Score(laid);
+        return Some(laid);
     }
     if document_checks::slices_hold(components, values) {
         let score = walk(sieve, components, values, query_components, query_values);
-        return Reading::Score(score);
+        return Some(score);
     }
-    Reading::Breaks
+    None
 }
 
 // The same reading where some component is expected past the table: the terms are checked once, whichever way is taken then.
@@ -348,23 +334,24 @@ fn read_wide(
     values: &[f32],
     query_components: &[u32],
     query_values: &[f32],
-) -> Reading
+) -> Option<f32>
     ensures { result ≡ read_through table.now sieve.now query_components.now query_values.now components.now values.now }
 {
     if !document_checks::slices_hold(components, values) {
-        return Reading::Breaks;
+        return None;
     }
     if fits_table(components) {
         let laid = laid_sum(table, components, values);
-        return Reading::Score(laid);
+        return Some(laid);
     }
     let score = walk(sieve, components, values, query_components, query_values);
-    Reading::Score(score)
+    Some(score)
 }
 
-// A page's reading by a table, or through a sieve where it has a component from 32,768 on. `narrow` says which of the two is expected: it
-// changes the steps that are made, and never what is read. With the table and the sieve of a query whose terms hold, it is the reading
-// against that query (specs/Laws/Reads). It takes time in proportion to the page's terms.
+// A page's reading by a table, or through a sieve where it has a component from 32,768 on: its score, or nothing where its terms break
+// their rules (14). `narrow` says which of the two ways is expected: it changes the steps that are made, and never what is read. With the
+// table and the sieve of a query whose terms hold, it is the reading against that query (specs/Laws/Reads). It takes time in proportion to
+// the page's terms.
 pub fn read(
     narrow: bool,
     table: &[f32; 32768],
@@ -373,7 +360,7 @@ pub fn read(
     values: &[f32],
     query_components: &[u32],
     query_values: &[f32],
-) -> Reading
+) -> Option<f32>
     ensures { result ≡ read_through table.now sieve.now query_components.now query_values.now components.now values.now }
 {
     if narrow {
@@ -396,26 +383,22 @@ pub fn read(
     )
 }
 
-// Two pages read at a time by the table: both scores where each page's terms hold and have their places in the table, else neither. Where
-// there are scores they are those of `read` (specs/Laws/Pairs). It takes time in proportion to the terms of both pages, little more than
-// the longer one alone.
+// Two pages read at a time by the table: both scores where each page's terms hold and have their places in the table, else nothing.
+// Where there are scores they are those of `read` (specs/Laws/Pairs). It takes time in proportion to the terms of both pages, little more
+// than the longer one alone.
 pub fn read_two(
     table: &[f32; 32768],
     components: &[u32],
     values: &[f32],
     others: &[u32],
     other_values: &[f32],
-) -> Pair
+) -> Option<Scores>
     ensures { result ≡ read_two table.now components.now values.now others.now other_values.now }
 {
     let one = document_checks::slices_hold_below(32768, components, values);
     let two = document_checks::slices_hold_below(32768, others, other_values);
     if one & two {
-        let sums = laid_two(table, components, values, others, other_values);
-        return Pair::Scores {
-            one: sums.one,
-            two: sums.two,
-        };
+        return Some(laid_two(table, components, values, others, other_values));
     }
-    Pair::Apart
+    None
 }

@@ -1,4 +1,5 @@
 -- One posting, by the tests that were passed.
+use Rattle.std.specs.Prelude.{Option, Ok, Err}
 use Prim.Native.Nat.{ℕ, ◌-◌, ◌≤◌, ◌<◌, min}
 use native.Mathlib.Omega.{arith}
 use mathlib.Core.Path.{◌≡◌, sym, ap, ◌∙◌}
@@ -13,15 +14,13 @@ use Rattle.packing.specs.Packing.{start_of, unpacked}
 use Rattle.refusal.specs.declared.Refusal.TheVariants.{PastTheTerms, WrongTerms}
 use Rattle.kept_list.specs.Entry.{scored}
 use Rattle.kept_list.specs.Lent.{Lent, settled}
-use Rattle.search_page.specs.declared.Reading.{Reading}
 use Rattle.search_page.specs.Through.{read_through}
 use Rattle.search_postings.specs.declared.Counts.{Counts}
-use Rattle.search_postings.specs.declared.Turn.TheVariants.{On, Stopped}
 use Rattle.search_postings.specs.declared.RangeReading.{RangeReading}
 use Rattle.search_postings.specs.declared.RangeReading.TheVariants.{ReachesPast, Breaks, Score}
 use Rattle.search_postings.specs.Outcomes.{visited}
 use Rattle.search_postings.specs.Ranges.{of_page, range_through, through_table}
-use Rattle.search_postings.specs.Postings.{Lends, lends, turned, one_more, counts, held_evaluate}
+use Rattle.search_postings.specs.Postings.{Lends, lends, turned, one_more, counts, stop_of, held_evaluate}
 use Rattle.search_postings.specs.Laws.Postings.{kept_found}
 
 -- ---- a range
@@ -29,7 +28,7 @@ module _ (table : List Float) (sieve qs : List ℕ) (ws : List Float) (cs : List
   pub range-past : n < e → ReachesPast ≡ range_through table sieve qs ws cs vs s e
   range-past h = rw (← m, lt-leb e n h)
 
-  pub range-read : (r : Reading) → e ≤ n → r ≡ read_through table sieve qs ws (take (e - s) (drop s cs)) (take (e - s) (drop s vs)) → of_page r ≡ range_through table sieve qs ws cs vs s e
+  pub range-read : (r : Option Float) → e ≤ n → r ≡ read_through table sieve qs ws (take (e - s) (drop s cs)) (take (e - s) (drop s vs)) → of_page r ≡ range_through table sieve qs ws cs vs s e
   range-read r h f = rw (← m, le-leb e n h) (ap of_page f)
 
   pub within-components : e ≤ n → e ≤ length cs
@@ -48,20 +47,20 @@ module _ (table : List Float) (sieve qs : List ℕ) (ws : List Float) (cs : List
   reading-of r h = sym (h ∙ ap (λ (x : UnpackedRange). range_through table sieve qs ws cs vs x.start.0 x.end) e)
 
 module _ (k : ℕ) (read : ℕ → RangeReading) (p i : ℕ) (c : Counts) (l : Lends) where
-  pub eval-passed : visited l.visits p ≡ true → turned (On c) l ≡ held_evaluate k read p i c l
+  pub eval-passed : visited l.visits p ≡ true → turned (Ok c) l ≡ held_evaluate k read p i c l
   unfolding held_evaluate
   eval-passed h = rw h
 
-  pub eval-past : visited l.visits p ≡ false → read p ≡ ReachesPast → turned (Stopped PastTheTerms i) l ≡ held_evaluate k read p i c l
+  pub eval-past : visited l.visits p ≡ false → read p ≡ ReachesPast → turned (Err (stop_of PastTheTerms i)) l ≡ held_evaluate k read p i c l
   unfolding held_evaluate
   eval-past h r = rw (h, r)
 
-  pub eval-breaks : visited l.visits p ≡ false → read p ≡ Breaks → turned (Stopped WrongTerms i) l ≡ held_evaluate k read p i c l
+  pub eval-breaks : visited l.visits p ≡ false → read p ≡ Breaks → turned (Err (stop_of WrongTerms i)) l ≡ held_evaluate k read p i c l
   unfolding held_evaluate
   eval-breaks h r = rw (h, r)
 
   pub eval-found : visited l.visits p ≡ false → (x : Float) → read p ≡ Score x → (n : ℕ) → n ≡ one_more c.evaluated → (m : Lends) → m ≡ kept_found k p (start_of p) x l
-      → turned (On (counts n c.skipped)) m ≡ held_evaluate k read p i c l
+      → turned (Ok (counts n c.skipped)) m ≡ held_evaluate k read p i c l
   unfolding held_evaluate
   eval-found h x r n o m f = rw (h, r, o, f)
 

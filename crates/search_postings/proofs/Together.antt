@@ -1,4 +1,5 @@
 -- Two postings at a time are two postings one after the other.
+use Rattle.std.specs.Prelude.{Option, Some, None, Result, Ok, Err}
 use Prim.Native.Nat.{ℕ, ◌+◌, ◌≤◌, min}
 use native.Mathlib.Omega.{arith}
 use mathlib.Core.Path.{◌≡◌, refl, sym, ap, ◌∙◌}
@@ -11,15 +12,11 @@ use borrow.Author.Tests.{le-leb, ltb-false}
 use Rattle.sequences.specs.Laws.Lists.{neither}
 use Rattle.packing.specs.declared.UnpackedRange.{UnpackedRange}
 use Rattle.packing.specs.Packing.{start_of, length_of, unpacked}
-use Rattle.search_page.specs.declared.Pair.{Pair}
-use Rattle.search_page.specs.declared.Pair.TheVariants.{Scores, Apart}
-use Rattle.search_page.specs.Through.{read_two}
+use Rattle.search_page.specs.declared.Scores.{Scores}
+use Rattle.search_page.specs.Through.{scores_of, read_two}
 use Rattle.search_page.specs.Laws.Pairs.{scores, first_reads, second_reads}
 use Rattle.search_postings.specs.declared.Counts.{Counts}
-use Rattle.search_postings.specs.declared.pairs.Both.{Both}
-use Rattle.search_postings.specs.declared.pairs.Both.TheVariants as told
-use Rattle.search_postings.specs.declared.Turn.{Turn}
-use Rattle.search_postings.specs.declared.Turn.TheVariants.{On, Stopped}
+use Rattle.search_postings.specs.declared.Stop.{Stop}
 use Rattle.search_postings.specs.declared.RangeReading.{RangeReading}
 use Rattle.search_postings.specs.declared.RangeReading.TheVariants.{Score}
 use Rattle.search_postings.specs.Outcomes.{passed, of_reading, visited}
@@ -29,29 +26,29 @@ use Rattle.search_postings.specs.Pairs.{was_visited, goes_past, terms_at, both_r
 
 -- ---- the scores, by the tests that were passed
 module _ (table : List Float) (cs : List ℕ) (vs : List Float) (visits : List ℕ) (p q : ℕ) where
-  pub both-unwanted : (w : Bool) → not w ≡ true → Apart ≡ read_both w table cs vs visits p q
+  pub both-unwanted : (w : Bool) → not w ≡ true → None ≡ read_both w table cs vs visits p q
   unfolding read_both
   both-unwanted true h = absurd (true≢false (sym h))
   both-unwanted false h = refl
 
   module _ (u v : UnpackedRange) (e : u ≡ unpacked p) (f : v ≡ unpacked q) (w : Bool) (h : not w ≡ false) where
-    both-ranges : (r : Pair) → r ≡ both_ranges table cs vs visits u v → r ≡ read_both w table cs vs visits p q
+    both-ranges : (r : Option Scores) → r ≡ both_ranges table cs vs visits u v → r ≡ read_both w table cs vs visits p q
     unfolding read_both
     both-ranges r g = g ∙ ap (λ x. both_ranges table cs vs visits x v) e ∙ ap (both_ranges table cs vs visits (unpacked p)) f ∙ asked w h
       where
-        asked : (b : Bool) → not b ≡ false → both_ranges table cs vs visits (unpacked p) (unpacked q) ≡ cond b (both_ranges table cs vs visits (unpacked p) (unpacked q)) Apart
+        asked : (b : Bool) → not b ≡ false → both_ranges table cs vs visits (unpacked p) (unpacked q) ≡ cond b (both_ranges table cs vs visits (unpacked p) (unpacked q)) None
         asked true i = refl
         asked false i = absurd (true≢false i)
 
     module _ (s t : Bool) (a : s ≡ was_visited visits u) (b : t ≡ was_visited visits v) where
-      pub both-visited : (s || t) ≡ true → Apart ≡ read_both w table cs vs visits p q
-      both-visited g = both-ranges Apart (rw (← a, ← b, g))
+      pub both-visited : (s || t) ≡ true → None ≡ read_both w table cs vs visits p q
+      both-visited g = both-ranges None (rw (← a, ← b, g))
 
       module _ (n : ℕ) (m : n ≡ min (length cs) (length vs)) (g : (s || t) ≡ false) where
-        pub both-past : (ltb n u.end || ltb n v.end) ≡ true → Apart ≡ read_both w table cs vs visits p q
-        both-past i = both-ranges Apart (rw (← a, ← b, g, ← m, i))
+        pub both-past : (ltb n u.end || ltb n v.end) ≡ true → None ≡ read_both w table cs vs visits p q
+        both-past i = both-ranges None (rw (← a, ← b, g, ← m, i))
 
-        pub both_read : (ltb n u.end || ltb n v.end) ≡ false → (r : Pair) → r ≡ read_two table (terms_at cs u) (terms_at vs u) (terms_at cs v) (terms_at vs v) → r ≡ read_both w table cs vs visits p q
+        pub both_read : (ltb n u.end || ltb n v.end) ≡ false → (r : Option Scores) → r ≡ read_two table (terms_at cs u) (terms_at vs u) (terms_at cs v) (terms_at vs v) → r ≡ read_both w table cs vs visits p q
         both_read i r j = both-ranges r (rw (← a, ← b, g, ← m, i) j)
 
 -- ranges that don't go past the terms
@@ -62,30 +59,30 @@ both-within cs vs n a b m i =
     let z = ltb-false n b t.1 in (omega (arith, y, m), omega (arith, y, m), omega (arith, z, m), omega (arith, z, m))
 
 -- ---- where there are scores, they are those of reading each posting
-if-scores : (b : Bool) (r : Pair) (x y : Float) → cond b r Apart ≡ Scores x y → (b ≡ true) × (r ≡ Scores x y)
+if-scores : (b : Bool) (r : Option Scores) (x y : Float) → cond b r None ≡ Some (scores_of x y) → (b ≡ true) × (r ≡ Some (scores_of x y))
 if-scores true r x y e = (refl, e)
 if-scores false r x y e = absurd (true≢false (sym (ap scores e)))
 
-unless-scores : (b : Bool) (r : Pair) (x y : Float) → cond b Apart r ≡ Scores x y → (b ≡ false) × (r ≡ Scores x y)
+unless-scores : (b : Bool) (r : Option Scores) (x y : Float) → cond b None r ≡ Some (scores_of x y) → (b ≡ false) × (r ≡ Some (scores_of x y))
 unless-scores true r x y e = absurd (true≢false (sym (ap scores e)))
 unless-scores false r x y e = (refl, e)
 
-module _ (table : List Float) (sieve qs : List ℕ) (ws : List Float) (cs : List ℕ) (vs : List Float) (visits : List ℕ) (p q : ℕ) (w : Bool) (x y : Float) (h : read_both w table cs vs visits p q ≡ Scores x y) where
+module _ (table : List Float) (sieve qs : List ℕ) (ws : List Float) (cs : List ℕ) (vs : List Float) (visits : List ℕ) (p q : ℕ) (w : Bool) (x y : Float) (h : read_both w table cs vs visits p q ≡ Some (scores_of x y)) where
   pub was-wanted : w ≡ true
   unfolding read_both
   was-wanted = (if-scores w (both_ranges table cs vs visits (unpacked p) (unpacked q)) x y h).0
 
-  abbrev both-terms : Pair
+  abbrev both-terms : Option Scores
   both-terms = read_two table (terms_at cs (unpacked p)) (terms_at vs (unpacked p)) (terms_at cs (unpacked q)) (terms_at vs (unpacked q))
 
   abbrev past : Bool
   past = goes_past cs vs (unpacked p) || goes_past cs vs (unpacked q)
 
-  within : (past ≡ false) × (both-terms ≡ Scores x y)
+  within : (past ≡ false) × (both-terms ≡ Some (scores_of x y))
   unfolding read_both
   within =
       unless-scores past both-terms x y
-      (unless-scores (was_visited visits (unpacked p) || was_visited visits (unpacked q)) (cond past Apart both-terms) x y (if-scores w (both_ranges table cs vs visits (unpacked p) (unpacked q)) x y h).1).1
+      (unless-scores (was_visited visits (unpacked p) || was_visited visits (unpacked q)) (cond past None both-terms) x y (if-scores w (both_ranges table cs vs visits (unpacked p) (unpacked q)) x y h).1).1
 
   first-through : through_table table sieve qs ws cs vs p ≡ Score x
   unfolding through_table
@@ -115,9 +112,9 @@ known_next k read p q i j x y c l g h = ap (λ t. next t (held_known k q y)) (kn
     next-same : (t : Turned) → next t (held_known k q y) ≡ next t (held_evaluate k read q j)
     next-same t = turns t.turn
       where
-        turns : (u : Turn) → then_on u t.lent (held_known k q y) ≡ then_on u t.lent (held_evaluate k read q j)
-        turns (On d) = known_is k read q j y d t.lent h
-        turns (Stopped r o) = refl
+        turns : (u : Result Counts Stop) → then_on u t.lent (held_known k q y) ≡ then_on u t.lent (held_evaluate k read q j)
+        turns (Ok d) = known_is k read q j y d t.lent h
+        turns (Err o) = refl
 
 -- ---- both, or neither
 abbrev turned_or : Turned → Pairing → Turned
@@ -132,34 +129,29 @@ abbrev paired : Pairing → Bool
 paired (together u) = true
 paired (apart l) = false
 
--- the first one's turn and the second one's after it
-pub two-done : (k p q : ℕ) (c : Counts) (l : Lends) (r : Pair) (x y : Float) → r ≡ Scores x y → (d : Counts) (m : Lends) → went_on d m ≡ held_known k p x c l → (e : Counts) (n : Lends) → went_on e n ≡ held_known k q y d m
-    → both_turned (told.Done e) n ≡ held_two k r p q c l
-two-done k p q c l r x y g d m f e n h = ap together (h ∙ ap (λ t. next t (held_known k q y)) f) ∙ ap (λ z. held_two k z p q c l) (sym g)
-
-module _ (k : ℕ) (p q : ℕ) (c : Counts) (l m : Lends) (b : Both) (r : Pair) (f : both_turned b m ≡ held_two k r p q c l) where
-  two-scored : (d : Counts) → b ≡ told.Done d → (x y : Float) → r ≡ Scores x y → went_on d m ≡ next (held_known k p x c l) (held_known k q y)
+module _ (k : ℕ) (p q : ℕ) (c : Counts) (l m : Lends) (b : Option Counts) (r : Option Scores) (f : both_turned b m ≡ held_two k r p q c l) where
+  two-scored : (d : Counts) → b ≡ Some d → (x y : Float) → r ≡ Some (scores_of x y) → went_on d m ≡ next (held_known k p x c l) (held_known k q y)
   two-scored d e x y g = ap (turned_or (went_on d m)) (ap (λ z. both_turned z m) (sym e) ∙ f ∙ ap (λ z. held_two k z p q c l) g)
 
-  pub two-apart : b ≡ told.Apart → m ≡ l
+  pub two-apart : b ≡ None → m ≡ l
   two-apart e = at r f
     where
-      at : (z : Pair) → both_turned b m ≡ held_two k z p q c l → m ≡ l
-      at (Scores x y) g = absurd (true≢false (ap paired (sym g ∙ ap (λ z. both_turned z m) e)))
-      at Apart g = ap (lends_or m) (ap (λ z. both_turned z m) (sym e) ∙ g)
+      at : (z : Option Scores) → both_turned b m ≡ held_two k z p q c l → m ≡ l
+      at (Some s) g = absurd (true≢false (ap paired (sym g ∙ ap (λ z. both_turned z m) e)))
+      at None g = ap (lends_or m) (ap (λ z. both_turned z m) (sym e) ∙ g)
 
-module _ (k : ℕ) (table : List Float) (sieve qs : List ℕ) (ws : List Float) (cs : List ℕ) (vs : List Float) (w : Bool) (p q i j : ℕ) (c : Counts) (l m : Lends) (b : Both)
-    (f : both_turned b m ≡ held_two k (read_both w table cs vs l.visits p q) p q c l) (d : Counts) (e : b ≡ told.Done d) where
+module _ (k : ℕ) (table : List Float) (sieve qs : List ℕ) (ws : List Float) (cs : List ℕ) (vs : List Float) (w : Bool) (p q i j : ℕ) (c : Counts) (l m : Lends) (b : Option Counts)
+    (f : both_turned b m ≡ held_two k (read_both w table cs vs l.visits p q) p q c l) (d : Counts) (e : b ≡ Some d) where
   abbrev pub TwoTurns : Type 0
   TwoTurns = (w ≡ true) × (went_on d m ≡ next (held_evaluate k (through_table table sieve qs ws cs vs) p i c l) (held_evaluate k (through_table table sieve qs ws cs vs) q j))
 
   pub two-turns : TwoTurns
   two-turns = at (read_both w table cs vs l.visits p q) refl
     where
-      at : (z : Pair) → read_both w table cs vs l.visits p q ≡ z → TwoTurns
-      at (Scores x y) g = (
-        was-wanted table sieve qs ws cs vs l.visits p q w x y g,
-        two-scored k p q c l m b (read_both w table cs vs l.visits p q) f d e x y g ∙ known_next k (through_table table sieve qs ws cs vs) p q i j x y c l (first-through table sieve qs ws cs vs l.visits p q w x y g)
-            (second-through table sieve qs ws cs vs l.visits p q w x y g),
+      at : (z : Option Scores) → read_both w table cs vs l.visits p q ≡ z → TwoTurns
+      at (Some s) g = (
+        was-wanted table sieve qs ws cs vs l.visits p q w s.one s.two g,
+        two-scored k p q c l m b (read_both w table cs vs l.visits p q) f d e s.one s.two g ∙ known_next k (through_table table sieve qs ws cs vs) p q i j s.one s.two c l (first-through table sieve qs ws cs vs l.visits p q w s.one s.two g)
+            (second-through table sieve qs ws cs vs l.visits p q w s.one s.two g),
       )
-      at Apart g = absurd (true≢false (ap paired (ap (λ z. both_turned z m) (sym e) ∙ f ∙ ap (λ z. held_two k z p q c l) g)))
+      at None g = absurd (true≢false (ap paired (ap (λ z. both_turned z m) (sym e) ∙ f ∙ ap (λ z. held_two k z p q c l) g)))

@@ -1,17 +1,15 @@
 -- What reading a posting's range gives: 13, 14, or the dot product with the query. Document 01, "Search" and "Scores".
-use Rattle.std.specs.Prelude.{ℕ, ◌+◌, ◌-◌, min, cond, List, length, leb, Float}
+use Rattle.std.specs.Prelude.{ℕ, ◌+◌, ◌-◌, min, cond, List, length, leb, Float, Option, Some, None}
 use Rattle.sequences.specs.Lists.{part}
 use Rattle.packing.specs.Packing.{start_of, length_of}
-use Rattle.search_page.specs.declared.Reading.{Reading}
-use Rattle.search_page.specs.declared.Reading.TheVariants as page
 use Rattle.search_page.specs.Reading.{reading}
 use Rattle.search_page.specs.Through.{read_through}
 use Rattle.search_postings.specs.declared.RangeReading.{RangeReading}
 use Rattle.search_postings.specs.declared.RangeReading.TheVariants.{ReachesPast, Breaks, Score}
 
-abbrev pub of_page : Reading → RangeReading
-of_page page.Breaks = Breaks
-of_page (page.Score x) = Score x
+abbrev pub of_page : Option Float → RangeReading
+of_page None = Breaks
+of_page (Some x) = Score x
 
 -- the documents' terms from start to below end
 abbrev pub range_at : List ℕ → List Float → List ℕ → List Float → ℕ → ℕ → RangeReading

@@ -15,9 +15,8 @@ ghost use Rattle.search_postings.specs.Pairs.{probe_rest, leads_to};
 use ahead::look_ahead;
 use number_types::RangeStart;
 use packing::PackedPosting;
-use pairs::{Both, evaluate_two};
+use pairs::evaluate_two;
 use refusal::Refusal;
-use search_page::Reading;
 
 // What reading a posting's range says.
 #[derive(Drop)]
@@ -34,18 +33,18 @@ pub struct Counts {
     pub skipped: u64,
 }
 
-// Whether the turns go on, and with which counts.
-#[derive(Drop)]
-pub enum Turn {
-    On(Counts),
-    Stopped { reason: Refusal, position: u64 },
+// Why a posting stopped the search, and its position.
+#[derive(Clone, Copy)]
+pub struct Stop {
+    pub reason: Refusal,
+    pub position: u64,
 }
 
-// Where a step over the next postings leads: to a position, with these counts, or it stops the search.
-#[derive(Drop)]
-enum Step {
-    On { counts: Counts, next: usize },
-    Stopped { reason: Refusal, position: u64 },
+// Where a step over the next postings leads: to a position, with these counts.
+#[derive(Clone, Copy)]
+struct Next {
+    counts: Counts,
+    next: usize,
 }
 
 // How many postings are looked at ahead.
@@ -83,13 +82,13 @@ fn read_range(
         query_values,
     );
     match r {
-        Reading::Breaks => RangeReading::Breaks,
-        Reading::Score(x) => RangeReading::Score(x),
+        None => RangeReading::Breaks,
+        Some(x) => RangeReading::Score(x),
     }
 }
 
 // One posting: passed over where its start was visited; else its range is read, and a scored one is kept if it is among the k best,
-// and its start is marked. Nothing changes where it stops the search.
+// and its start is marked. The answer is the counts after it, or the stop at it; nothing changes where it stops the search.
 fn evaluate(
     narrow: bool,
     table: &[f32; 32768],
@@ -106,14 +105,14 @@ fn evaluate(
     scores: &mut [f32],
     visits: &mut [u8],
     counts: Counts,
-) -> Turn
+) -> Result<Counts, Stop>
     ensures { turned result (lends (lent length.new packed.new scores.new) visits.new)
         ≡ held_evaluate k (through_table table.now sieve.now query_components.now query_values.now components.now values.now)
         posting.0 position counts (lends (lent length.old packed.old scores.old) visits.old) }
 {
     let range = posting.unpack();
     if search_steps::is_visited(visits, range.start) {
-        return Turn::On(counts);
+        return Ok(counts);
     }
     let r = read_range(
         narrow,
@@ -127,17 +126,17 @@ fn evaluate(
         range.end,
     );
     match r {
-        RangeReading::ReachesPast => Turn::Stopped {
+        RangeReading::ReachesPast => Err(Stop {
             reason: Refusal::PastTheTerms,
             position,
-        },
-        RangeReading::Breaks => Turn::Stopped {
+        }),
+        RangeReading::Breaks => Err(Stop {
             reason: Refusal::WrongTerms,
             position,
-        },
+        }),
         RangeReading::Score(x) => {
             search_held::keep_found(k, posting, range.start, x, length, packed, scores, visits);
-            Turn::On(Counts {
+            Ok(Counts {
                 evaluated: search_steps::one_more(counts.evaluated),
                 skipped: counts.skipped,
             })
@@ -145,8 +144,8 @@ fn evaluate(
     }
 }
 
-// The next posting, or the next two at a time where there are two before the stop and the table is expected to have a place for each of their
-// components.
+// A step over the next posting, or over the next two at a time where there are two before the stop and the table is expected to have a
+// place for each of their components.
 fn step_on(
     narrow: bool,
     table: &[f32; 32768],
@@ -164,7 +163,7 @@ fn step_on(
     scores: &mut [f32],
     visits: &mut [u8],
     counts: Counts,
-) -> Step
+) -> Result<Next, Stop>
     requires i_lt_stop { i < stop }
     requires stop_bound { stop ≤ len postings.now }
     ensures turned { probe_rest k (through_table table.now sieve.now query_components.now query_values.now components.now
@@ -190,13 +189,13 @@ fn step_on(
         visits,
         counts,
     );
-    if let Both::Done(c) = both {
-        return Step::On {
+    if let Some(c) = both {
+        return Ok(Next {
             counts: c,
             next: i + 2,
-        };
+        });
     }
-    let t = evaluate(
+    let c = evaluate(
         narrow,
         table,
         sieve,
@@ -212,19 +211,16 @@ fn step_on(
         scores,
         visits,
         counts,
-    );
-    match t {
-        Turn::On(c) => Step::On {
-            counts: c,
-            next: i + 1,
-        },
-        Turn::Stopped { reason, position } => Step::Stopped { reason, position },
-    }
+    )?;
+    Ok(Next {
+        counts: c,
+        next: i + 1,
+    })
 }
 
-// The postings from one position to below another, as far as there are any, one after another. Some at a time are looked at ahead, so
-// that their terms are on their way when they are read; what that says changes only the way of reading. It takes time in proportion to
-// the terms of the postings evaluated, and a few steps for each one passed over.
+// The postings from one position to below another, as far as there are any, one after another: the counts after them, or the stop at one
+// of them. Some at a time are looked at ahead, so that their terms are on their way when they are read; what that says changes only the
+// way of reading. It takes time in proportion to the terms of the postings evaluated, and a few steps for each one passed over.
 pub fn probe_postings(
     table: &[f32; 32768],
     sieve: &[u8; 4096],
@@ -241,7 +237,7 @@ pub fn probe_postings(
     scores: &mut [f32],
     visits: &mut [u8],
     counts: Counts,
-) -> Turn
+) -> Result<Counts, Stop>
     ensures { turned result (lends (lent length.new packed.new scores.new) visits.new)
         ≡ held_probe k (through_table table.now sieve.now query_components.now query_values.now components.now
         values.now) postings.now (from first (min end (len postings.now) - first)) counts
@@ -275,16 +271,9 @@ pub fn probe_postings(
             scores,
             visits,
             c,
-        );
-        match s {
-            Step::On { counts: d, next } => {
-                c = d;
-                i = next;
-            }
-            Step::Stopped { reason, position } => {
-                return Turn::Stopped { reason, position };
-            }
-        }
+        )?;
+        c = s.counts;
+        i = s.next;
     }
-    Turn::On(c)
+    Ok(c)
 }

@@ -7,16 +7,9 @@ ghost use Rattle.search_postings.specs.Pairs.{read_both, went_on, held_known, bo
 
 use crate::Counts;
 use packing::PackedPosting;
-use search_page::Pair;
+use search_page::Scores;
 
-// What becomes of two postings: both are done, with these counts, or they are to be taken one by one.
-#[derive(Drop)]
-pub enum Both {
-    Done(Counts),
-    Apart,
-}
-
-// The scores of two postings that are wanted together. They stay apart where one of the starts was visited, where a range reaches past
+// The scores of two postings that are wanted together. There are none where one of the starts was visited, where a range reaches past
 // the terms, or where a page is not read by the table.
 fn read_both(
     wanted: bool,
@@ -26,26 +19,24 @@ fn read_both(
     visits: &[u8],
     one: PackedPosting,
     two: PackedPosting,
-) -> Pair
+) -> Option<Scores>
     ensures { result ≡ read_both wanted table.now components.now values.now visits.now one.0 two.0 }
 {
     if !wanted {
-        return Pair::Apart;
+        return None;
     }
     let a = one.unpack();
     let b = two.unpack();
-    let a_start = a.start;
-    let b_start = b.start;
-    if search_steps::is_visited(visits, a_start) | search_steps::is_visited(visits, b_start) {
-        return Pair::Apart;
+    if search_steps::is_visited(visits, a.start) | search_steps::is_visited(visits, b.start) {
+        return None;
     }
-    let a_from = a_start.0 as usize;
+    let a_from = a.start.0 as usize;
     let a_to = a.end as usize;
-    let b_from = b_start.0 as usize;
+    let b_from = b.start.0 as usize;
     let b_to = b.end as usize;
     let n = documents::term_count(components, values);
     if (n < a_to) | (n < b_to) {
-        return Pair::Apart;
+        return None;
     }
     search_page::read_two(
         table,
@@ -70,8 +61,7 @@ fn evaluate_known(
     ensures { went_on result (lends (lent length.new packed.new scores.new) visits.new)
         ≡ held_known k posting.0 score counts (lends (lent length.old packed.old scores.old) visits.old) }
 {
-    let range = posting.unpack();
-    let start = range.start;
+    let start = posting.unpack().start;
     if search_steps::is_visited(visits, start) {
         return counts;
     }
@@ -82,7 +72,8 @@ fn evaluate_known(
     }
 }
 
-// Two postings one after the other, where they are wanted together and can be read so; else nothing changes.
+// Two postings one after the other, and the counts after both, where they are wanted together and can be read so; else nothing changes,
+// and they are to be taken one by one.
 pub(crate) fn evaluate_two(
     wanted: bool,
     table: &[f32; 32768],
@@ -96,18 +87,13 @@ pub(crate) fn evaluate_two(
     scores: &mut [f32],
     visits: &mut [u8],
     counts: Counts,
-) -> Both
+) -> Option<Counts>
     ensures { both_turned result (lends (lent length.new packed.new scores.new) visits.new)
         ≡ held_two k (read_both wanted table.now components.now values.now visits.old one.0 two.0) one.0 two.0 counts
         (lends (lent length.old packed.old scores.old) visits.old) }
 {
-    let r = read_both(wanted, table, components, values, visits, one, two);
-    match r {
-        Pair::Apart => Both::Apart,
-        Pair::Scores { one: x, two: y } => {
-            let c = evaluate_known(k, one, x, length, packed, scores, visits, counts);
-            let d = evaluate_known(k, two, y, length, packed, scores, visits, c);
-            Both::Done(d)
-        }
-    }
+    let s = read_both(wanted, table, components, values, visits, one, two)?;
+    let c = evaluate_known(k, one, s.one, length, packed, scores, visits, counts);
+    let d = evaluate_known(k, two, s.two, length, packed, scores, visits, c);
+    Some(d)
 }

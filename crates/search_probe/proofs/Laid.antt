@@ -1,4 +1,5 @@
 -- With room for k, the turns over lent memory are the sweep over its entries, laid down; what lies past them is unchanged.
+use Rattle.std.specs.Prelude.{Ok, Err}
 use Prim.Native.Nat.{ℕ, ◌+◌, ◌≤◌}
 use native.Mathlib.Omega.{arith}
 use mathlib.Core.Path.{◌≡◌, refl, sym, ap, ◌∙◌}
@@ -17,8 +18,7 @@ use Rattle.kept_list.specs.Laws.Laid.{entries-written, written_over, room-writte
 use Rattle.search_postings.specs.declared.Counts.{Counts}
 use Rattle.search_postings.specs.declared.RangeReading.{RangeReading}
 use Rattle.search_postings.specs.declared.RangeReading.TheVariants.{ReachesPast, Breaks, Score}
-use Rattle.search_postings.specs.declared.Turn.TheVariants.{On, Stopped}
-use Rattle.search_postings.specs.Postings.{Lends, lends, Turned, turned, counts, next, held_outcome, held_evaluate, held_probe}
+use Rattle.search_postings.specs.Postings.{Lends, lends, Turned, turned, counts, stop_of, next, held_outcome, held_evaluate, held_probe}
 use Rattle.search_blocks.specs.Turns.{held_skips, held_turn, block_at, held_sweep}
 use Rattle.search_probe.specs.Probing.{Place, Given, State, state, passed, of_reading, packed_at, start_at, Reached, goes_on, stops_at, and_then, evaluate, probe, skips, positions, pass_over, sweep}
 use Rattle.search_probe.specs.Probed.{Terms, left, rest_of, laid, answer_of}
@@ -33,8 +33,8 @@ abbrev counts_of : State → Counts
 counts_of s = counts s.evaluated s.skipped
 
 abbrev pub laid_turn : Lent → Reached → Turned
-laid_turn l (goes_on s) = turned (On (counts_of s)) (laid_state l s)
-laid_turn l (stops_at r i s) = turned (Stopped r i) (laid_state l s)
+laid_turn l (goes_on s) = turned (Ok (counts_of s)) (laid_state l s)
+laid_turn l (stops_at r i s) = turned (Err (stop_of r i)) (laid_state l s)
 
 module _ (g : Given) (l : Lent) (room : RoomFor g.k l) where
   settled-laid : (e : Scored) (es : List Scored) → length es ≤ g.k → settled g.k e (written es l) ≡ written (keep better g.k e es) l
@@ -78,9 +78,9 @@ module _ (g : Given) (l : Lent) (room : RoomFor g.k l) where
   unfolding held_sweep held_turn block_at
   sweep-laid [] s n m = refl
   sweep-laid (b ∷ bs) s n m =
-      ap (λ k. next (cond (held_skips g.k g.factor (get_or g.block_scores b nan) (length s.kept) (laid_state l s).kept.scores) (turned (On (counts s.evaluated k)) (laid_state l s)) (held_from (positions g b) s)) (held_all bs))
+      ap (λ k. next (cond (held_skips g.k g.factor (get_or g.block_scores b nan) (length s.kept) (laid_state l s).kept.scores) (turned (Ok (counts s.evaluated k)) (laid_state l s)) (held_from (positions g b) s)) (held_all bs))
       (counts-on s.skipped (omega arith))
-      ∙ ap (λ x. next (cond x (turned (On (counts_of (pass_over s))) (laid_state l s)) (held_from (positions g b) s)) (held_all bs)) (skips-laid s.kept b)
+      ∙ ap (λ x. next (cond x (turned (Ok (counts_of (pass_over s))) (laid_state l s)) (held_from (positions g b) s)) (held_all bs)) (skips-laid s.kept b)
       ∙ go (skips g s.kept b) (sweep-laid bs)
     where
       rest : (r : Reached) → FitsOn g s.skipped r → LaidFrom bs → next (laid_turn l r) (held_all bs) ≡ laid_turn l (and_then r (sweep g bs))
@@ -88,7 +88,7 @@ module _ (g : Given) (l : Lent) (room : RoomFor g.k l) where
       rest (stops_at r i t) f h = refl
 
       go : (x : Bool) → LaidFrom bs
-          → next (cond x (turned (On (counts_of (pass_over s))) (laid_state l s)) (held_from (positions g b) s)) (held_all bs) ≡ laid_turn l (and_then (cond x (goes_on (pass_over s)) (probe g (positions g b) s)) (sweep g bs))
+          → next (cond x (turned (Ok (counts_of (pass_over s))) (laid_state l s)) (held_from (positions g b) s)) (held_all bs) ≡ laid_turn l (and_then (cond x (goes_on (pass_over s)) (probe g (positions g b) s)) (sweep g bs))
       go true h = h (pass_over s) (record { few = n.few; counted = n.counted; bytes = n.bytes }) (omega arith)
       go false h = ap (λ r. next r (held_all bs)) (probe-laid (positions g b) s n) ∙ rest (probe g (positions g b) s) (probe-fits g (positions g b) s n) h
 

@@ -21,7 +21,8 @@ use Rattle.search_page.specs.Through.{laying, sieve_of}
 use Rattle.search_page.specs.Laws.Through.{table_of}
 use Rattle.search_probe.specs.declared.Answer.{Answer}
 use Rattle.search_probe.specs.declared.Answer.TheVariants.{Refused}
-use Rattle.search_postings.specs.declared.Turn.{Turn}
+use Rattle.search_postings.specs.declared.Counts.{Counts}
+use Rattle.search_postings.specs.declared.Stop.{Stop}
 use Rattle.search_postings.specs.Ranges.{through_table}
 use Rattle.search_postings.specs.Postings.{Turned, turned, counts}
 use Rattle.search_blocks.specs.Turns.{held_sweep}
@@ -84,7 +85,7 @@ module _ (k : ℕ) (t : Terms) (l : Lends) (v : Result (Unit {0}) Refusal) (e : 
         leb-false (length l.visits) (length t.components) (neither (ltb (length l.kept.packed) k || ltb (length l.kept.scores) k) (leb (length l.visits) (length t.components)) n.1.1.1.0).1
 
     pub accepted-is : (table : List Float) → table ≡ table_of t.query_components t.query_values → (sieve : List ℕ) → sieve ≡ sieve_of t.query_components → (f : Float) (ps os : List ℕ) (xs : List Float) (order : List ℕ) (n : ℕ)
-        → length l.visits ≤ 18446744073709551615 → n ≤ 18446744073709551615 → (u : Turn) (m : Lends) (a : Answer)
+        → length l.visits ≤ 18446744073709551615 → n ≤ 18446744073709551615 → (u : Result Counts Stop) (m : Lends) (a : Answer)
         → turned u m ≡ held_sweep k f (through_table table sieve t.query_components t.query_values t.components t.values) ps os xs (listed order n) (counts 0 0) (lends l.kept (bytes_of t l.visits))
         → a ≡ answer_of u m.kept.size → left a (lends m.kept (m.visits ++ rest_of t l.visits)) ≡ probed k f t ps os xs (listed order n) l
     unfolding probed

@@ -10,8 +10,8 @@ use Rattle.search_probe.specs.declared.Answer.{Answer}
 use Rattle.search_probe.specs.declared.Answer.TheVariants.{Refused, Stopped, Found}
 use Rattle.search_probe.specs.Probing.{Given, State, state, Reached, goes_on, stops_at, sweep}
 use Rattle.search_postings.specs.declared.RangeReading.{RangeReading}
-use Rattle.search_postings.specs.declared.Turn.{Turn}
-use Rattle.search_postings.specs.declared.Turn.TheVariants as turns
+use Rattle.search_postings.specs.declared.Counts.{Counts}
+use Rattle.search_postings.specs.declared.Stop.{Stop}
 use Rattle.search_postings.specs.Ranges.{range_reading}
 pub use Rattle.search_postings.specs.Postings.{Lends, lends}
 pub use Rattle.search_blocks.specs.Turns.{listed}
@@ -83,9 +83,9 @@ abbrev pub opened : Terms → Lends → State
 opened t l = state (entries l.kept) (bytes_of t l.visits) 0 0
 
 -- the answer to where the turns came, with so many kept
-abbrev pub answer_of : Turn → ℕ → Answer
-answer_of (turns.On c) n = Found n c.evaluated c.skipped
-answer_of (turns.Stopped r i) n = Stopped r i
+abbrev pub answer_of : Result Counts Stop → ℕ → Answer
+answer_of (Ok c) n = Found n c.evaluated c.skipped
+answer_of (Err s) n = Stopped s.reason s.position
 
 -- the blocks have their turns in the order given
 unfoldable pub probed : ℕ → Float → Terms → List ℕ → List ℕ → List Float → List ℕ → Lends → Left

@@ -8,7 +8,7 @@ ghost use Rattle.kept_list.specs.Lent.{lent};
 ghost use Rattle.search_probe.specs.Probed.{terms, lends, left, tests, listed, probed, answer_of};
 
 use refusal::Refusal;
-use search_postings::Turn;
+use search_postings::{Counts, Stop};
 
 // What a search says: a refusal; a posting at which it was stopped, by its place among the postings; or how many entries are kept,
 // how many postings were evaluated and how many blocks skipped.
@@ -27,18 +27,18 @@ pub enum Answer {
 }
 
 // The answer to where the turns came.
-fn finish(t: Turn, kept: u64) -> Answer
+fn finish(t: Result<Counts, Stop>, kept: u64) -> Answer
     ensures { result ≡ answer_of t kept }
 {
     match t {
-        Turn::On(c) => Answer::Found {
+        Ok(c) => Answer::Found {
             kept: kept,
             evaluated: c.evaluated,
             skipped: c.skipped,
         },
-        Turn::Stopped { reason, position } => Answer::Stopped {
-            reason: reason,
-            position: position,
+        Err(stop) => Answer::Stopped {
+            reason: stop.reason,
+            position: stop.position,
         },
     }
 }

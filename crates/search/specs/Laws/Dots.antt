@@ -1,11 +1,10 @@
 -- Laws of Dots: the score of a posting that was evaluated is the dot product of the terms of its range with the query.
-use Rattle.std.specs.Prelude.{ℕ, ◌+◌, ◌-◌, ◌≡◌, refl, Bool, true, false, cond, List, length, leb, Float}
+use Rattle.std.specs.Prelude.{ℕ, ◌+◌, ◌-◌, ◌≡◌, refl, Bool, true, false, cond, List, length, leb, Float, Some, None}
 use Rattle.std.proofs.Common.{arith, sym, subst, leb-true, leb-false}
 use Rattle.sequences.specs.Lists.{part}
 use Rattle.packing.specs.Packing.{start_of, length_of}
 use Rattle.documents.specs.Documents.{paired, dot}
 use Rattle.documents.specs.Checks.{slices_hold}
-use Rattle.search_page.specs.declared.Reading.TheVariants as page
 use Rattle.search_page.specs.Reading.{reading}
 use Rattle.search_postings.specs.declared.RangeReading.{RangeReading}
 use Rattle.search_postings.specs.declared.RangeReading.TheVariants.{ReachesPast, Breaks, Score}
@@ -28,14 +27,14 @@ reads t p = subst (λ n. Reads t p (read n)) (sym size) (go (leb (start_of p + l
     read : ℕ → RangeReading
     read n =
         cond (leb (start_of p + length_of p) (length t.components))
-        (of_page (cond (slices_hold (part (start_of p) n t.components) (part (start_of p) n t.values)) (page.Score (dot (query_terms t) (paired (part (start_of p) n t.components)
-        (part (start_of p) n t.values)))) page.Breaks)) ReachesPast
+        (of_page (cond (slices_hold (part (start_of p) n t.components) (part (start_of p) n t.values)) (Some (dot (query_terms t) (paired (part (start_of p) n t.components)
+        (part (start_of p) n t.values)))) None)) ReachesPast
 
     size : start_of p + length_of p - start_of p ≡ length_of p
     size = omega arith
 
     go : (a : Bool) → leb (start_of p + length_of p) (length t.components) ≡ a → (b : Bool) → slices_hold (in_range p t.components) (in_range p t.values) ≡ b
-        → Reads t p (cond a (of_page (cond b (page.Score (dot (query_terms t) (range_terms t p))) page.Breaks)) ReachesPast)
+        → Reads t p (cond a (of_page (cond b (Some (dot (query_terms t) (range_terms t p))) None)) ReachesPast)
     go true a true b = record { within = leb-true (start_of p + length_of p) (length t.components) a; holds = b; is = refl }
     go true a false b = breaks_rules refl (leb-true (start_of p + length_of p) (length t.components) a) b
     go false a c b = reaches_past refl (leb-false (start_of p + length_of p) (length t.components) a)

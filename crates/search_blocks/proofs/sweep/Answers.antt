@@ -1,6 +1,7 @@
 -- `search_blocks::sweep`: the turns that are left are those of all.
 use mathlib.Core.Path.{refl, ap, ◌∙◌}
 use lib.ListN.{get_or}
+use Rattle.refusal.specs.Laws.First.{handed-up}
 use Rattle.kept_list.specs.Lent.{lent}
 use Rattle.search_postings.specs.Ranges.{through_table}
 use Rattle.search_postings.specs.Postings.{lends, counts as counted}
@@ -21,17 +22,18 @@ loop-i-init c = (
   c.worst_kept-worst.ensures,
 )
 
-pub take_turn-t-requires : goal.take_turn-t-requires
-take_turn-t-requires c = c.loop-i.invariant.4
+pub take_turn-requires : goal.take_turn-requires
+take_turn-requires c = c.loop-i.invariant.4
 
-pub returns-in-Stopped : goal.returns-in-Stopped
-returns-in-Stopped c =
+pub returns-in_err-c : goal.returns-in_err-c
+returns-in_err-c c =
     let l = c.loop-i in
     let a = c.args in
     sweep-stop a.k a.factor (through_table a.table.now a.sieve.now a.query_components.now a.query_values.now a.components.now a.values.now) a.postings.now
     a.block_offsets.now a.block_scores.now (get_or a.block_order.now l.i l.i) _ _ (listed_next a.block_order.now l.i a.turns (omega arith)) l.c
-    (lends (lent l.length l.packed l.scores) l.visits) c.block_at-b.result c.block_at-b.ensures c.take_turn-t.result _ _ _
-    c.in-Stopped.is c.take_turn-t.ensures ∙ l.invariant.3
+    (lends (lent l.length l.packed l.scores) l.visits) c.block_at-b.result c.block_at-b.ensures c.take_turn.result _ _
+    c.in_err-c.was c.take_turn.ensures c.from_residual.result
+    (handed-up c.from_residual.result _ c.from_residual.ensures.1) ∙ l.invariant.3
 
 pub loop-i-preserved : goal.loop-i-preserved
 loop-i-preserved c =
@@ -42,8 +44,8 @@ loop-i-preserved c =
       search rules,
       sweep-on a.k a.factor (through_table a.table.now a.sieve.now a.query_components.now a.query_values.now a.components.now a.values.now) a.postings.now
           a.block_offsets.now a.block_scores.now (get_or a.block_order.now l.i l.i) _ _ (listed_next a.block_order.now l.i a.turns (omega arith)) l.c
-          (lends (lent l.length l.packed l.scores) l.visits) c.block_at-b.result c.block_at-b.ensures c.take_turn-t.result _ _
-          c.in-On.is c.take_turn-t.ensures ∙ l.invariant.3,
+          (lends (lent l.length l.packed l.scores) l.visits) c.block_at-b.result c.block_at-b.ensures c.take_turn.result _ _
+          c.in_ok-c.was c.take_turn.ensures ∙ l.invariant.3,
       c.worst_kept-worst-in-loop-i.ensures,
     )
 

@@ -2,8 +2,8 @@
 use Rattle.search_page.proofs.Laws.{first-even, second-even, reads_two, reads-apart}
 use Rattle.search_page.proofs.read_two.Goals as goal
 
-pub laid_two-sums-requires : goal.laid_two-sums-requires
-laid_two-sums-requires c =
+pub laid_two-requires : goal.laid_two-requires
+laid_two-requires c =
     let a = c.args in
     let one = c.slices_hold_below-one in
     let two = c.slices_hold_below-two in record {
@@ -17,7 +17,7 @@ returns-then-one-two c =
     let one = c.slices_hold_below-one in
     let two = c.slices_hold_below-two in
     reads_two a.table.now a.components.now a.values.now a.others.now a.other_values.now one.result two.result one.ensures two.ensures c.if-one-two.true
-    c.laid_two-sums.result.one c.laid_two-sums.result.two c.laid_two-sums.ensures.one c.laid_two-sums.ensures.two
+    c.laid_two.result c.laid_two.ensures.one c.laid_two.ensures.two
 
 pub returns : goal.returns
 returns c =

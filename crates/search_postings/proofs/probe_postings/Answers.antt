@@ -2,6 +2,7 @@
 use mathlib.Core.Path.{refl, ap, ◌∙◌}
 use Prim.Native.Nat.{◌-◌}
 use Rattle.sequences.specs.Lists.{from}
+use Rattle.refusal.specs.Laws.First.{handed-up}
 use Rattle.kept_list.specs.Lent.{lent}
 use Rattle.search_postings.specs.Ranges.{through_table}
 use Rattle.search_postings.specs.Postings.{lends, held_probe}
@@ -16,7 +17,7 @@ loop-i-init c = (refl, refl, refl, refl)
 pub loop-i-smaller : goal.loop-i-smaller
 loop-i-smaller c =
     let stop = c.min-stop.result in
-    let z = leads-on stop c.loop-i.i c.step_on-s.result _ _ c.in-On.is c.step_on-s.ensures.further in omega (arith, z, c.loop-i-test.true)
+    let z = leads-on stop c.loop-i.i c.step_on.result _ c.in_ok-s.was c.step_on.ensures.further in omega (arith, z, c.loop-i-test.true)
 
 pub loop-i-preserved : goal.loop-i-preserved
 loop-i-preserved c = (
@@ -25,14 +26,15 @@ loop-i-preserved c = (
   search rules,
   let a = c.args in
       rest-on a.k (through_table a.table.now a.sieve.now a.query_components.now a.query_values.now a.components.now a.values.now) a.postings.now
-      c.min-stop.result c.step_on-s.result _ _ c.step_on-s.ensures.turned _ _ c.in-On.is ∙ c.loop-i.invariant.3,
+      c.min-stop.result c.step_on.result _ _ c.step_on.ensures.turned _ c.in_ok-s.was ∙ c.loop-i.invariant.3,
 )
 
-pub returns-in-Stopped : goal.returns-in-Stopped
-returns-in-Stopped c =
+pub returns-in_err-s : goal.returns-in_err-s
+returns-in_err-s c =
     let a = c.args in
     rest-stop a.k (through_table a.table.now a.sieve.now a.query_components.now a.query_values.now a.components.now a.values.now) a.postings.now
-    c.min-stop.result c.step_on-s.result _ _ c.step_on-s.ensures.turned _ _ c.in-Stopped.is ∙ c.loop-i.invariant.3
+    c.min-stop.result c.step_on.result _ _ c.step_on.ensures.turned _ c.in_err-s.was
+    _ (handed-up c.from_residual.result _ c.from_residual.ensures.1) ∙ c.loop-i.invariant.3
     ∙ ap (λ e. held_probe a.k (through_table a.table.now a.sieve.now a.query_components.now a.query_values.now a.components.now a.values.now)
     a.postings.now (from a.first (e - a.first)) a.counts (lends (lent a.length.now a.packed.now a.scores.now) a.visits.now))
     c.min-stop.ensures

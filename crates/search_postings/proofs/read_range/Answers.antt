@@ -22,14 +22,14 @@ slice_bounds-read-end-2 c =
     within-values a.table.now a.sieve.now a.query_components.now a.query_values.now a.components.now a.values.now a.start.0 a.end
     c.term_count-n.result c.term_count-n.ensures c.if-n-to.false
 
-pub returns-in-Breaks : goal.returns-in-Breaks
-returns-in-Breaks c =
+pub returns-in-None : goal.returns-in-None
+returns-in-None c =
     let a = c.args in
-    ap of_page (sym c.in-Breaks.is) ∙ range-read a.table.now a.sieve.now a.query_components.now a.query_values.now a.components.now a.values.now a.start.0
+    ap of_page (sym c.in-None.is) ∙ range-read a.table.now a.sieve.now a.query_components.now a.query_values.now a.components.now a.values.now a.start.0
     a.end c.term_count-n.result c.term_count-n.ensures c.read-r.result c.if-n-to.false c.read-r.ensures
 
-pub returns-in-Score : goal.returns-in-Score
-returns-in-Score c =
+pub returns-in-Some : goal.returns-in-Some
+returns-in-Some c =
     let a = c.args in
-    ap of_page (sym c.in-Score.is) ∙ range-read a.table.now a.sieve.now a.query_components.now a.query_values.now a.components.now a.values.now a.start.0
+    ap of_page (sym c.in-Some.is) ∙ range-read a.table.now a.sieve.now a.query_components.now a.query_values.now a.components.now a.values.now a.start.0
     a.end c.term_count-n.result c.term_count-n.ensures c.read-r.result c.if-n-to.false c.read-r.ensures

@@ -3,8 +3,8 @@ use mathlib.Core.Path.{sym, ap}
 use Rattle.search_probe.specs.Probed.{answer_of}
 use Rattle.search_probe.proofs.finish.Goals as goal
 
-pub returns-in-On : goal.returns-in-On
-returns-in-On c = ap (λ x. answer_of x c.args.kept) (sym c.in-On.is)
+pub returns-in-Ok : goal.returns-in-Ok
+returns-in-Ok c = ap (λ x. answer_of x c.args.kept) (sym c.in-Ok.is)
 
-pub returns-in-Stopped : goal.returns-in-Stopped
-returns-in-Stopped c = ap (λ x. answer_of x c.args.kept) (sym c.in-Stopped.is)
+pub returns-in-Err : goal.returns-in-Err
+returns-in-Err c = ap (λ x. answer_of x c.args.kept) (sym c.in-Err.is)

@@ -10,7 +10,7 @@ pub returns-then-is_visited : goal.returns-then-is_visited
 returns-then-is_visited c =
     let a = c.args in
     eval-passed a.k (λ _. Score a.score) a.posting.0 0 a.counts (lends (lent a.length.now a.packed.now a.scores.now) a.visits.now)
-    (visited-by a.posting.0 c.unpack-range.result c.unpack-range.ensures a.visits.now c.is_visited.result c.is_visited.ensures ∙
+    (visited-by a.posting.0 c.unpack.result c.unpack.ensures a.visits.now c.is_visited.result c.is_visited.ensures ∙
     c.if-is_visited.true)
 
 pub returns : goal.returns
@@ -18,6 +18,6 @@ returns c =
     let a = c.args in
     let l = lends (lent a.length.now a.packed.now a.scores.now) a.visits.now in
     eval-found a.k (λ _. Score a.score) a.posting.0 0 a.counts l
-    (visited-by a.posting.0 c.unpack-range.result c.unpack-range.ensures a.visits.now c.is_visited.result c.is_visited.ensures ∙
+    (visited-by a.posting.0 c.unpack.result c.unpack.ensures a.visits.now c.is_visited.result c.is_visited.ensures ∙
     c.if-is_visited.false) a.score refl c.one_more.result c.one_more.ensures _
-    (found-by a.posting.0 c.unpack-range.result c.unpack-range.ensures a.k a.score l _ _ c.keep_found.ensures.kept c.keep_found.ensures.visits)
+    (found-by a.posting.0 c.unpack.result c.unpack.ensures a.k a.score l _ _ c.keep_found.ensures.kept c.keep_found.ensures.visits)
