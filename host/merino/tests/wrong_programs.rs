@@ -1,5 +1,6 @@
 //! Each public function of a proved library is named by at least four wrong programs: edits in its crate's must-fail/ or audit/ that change
-//! its body, or that of a private function which it calls. Whether the checker refuses them is tried by `rt ci` and `tools/audit`.
+//! its body, the enum whose numbers it answers with, or a private function which it calls. Whether the checker refuses them is tried by
+//! `rt ci` and `tools/audit`.
 use std::collections::BTreeSet;
 use std::fs;
 use std::path::{Path, PathBuf};
@@ -89,9 +90,13 @@ fn changed(all: &[Function], folder: &Path, edit: &str) -> BTreeSet<usize> {
             let text = fs::read_to_string(folder.join(file)).expect(file);
             let at = text.find(old).unwrap_or_else(|| panic!("{} lacks {old}", folder.join(file).display()));
             let before = |f: &&Function| f.file == file && f.from <= at + old.len() - old.trim_start().len();
-            // what stands before a file's first function, such as the numbers of an enum, is taken to be that one's
-            let place = all.iter().filter(before).count().saturating_sub(1);
-            places.extend(all.iter().position(|f| f.file == file).map(|first| first + place));
+            // the numbers of an enum in front of all functions are those that the first one answers with
+            let numbers = text[..at].rsplit("\n}").next().is_some_and(|t| t.contains("pub enum "));
+            let place = all.iter().filter(before).count().checked_sub(1).or(numbers.then_some(0));
+            places.extend(place.map(|n| {
+                let first = all.iter().position(|f| f.file == file).expect(file);
+                first + n
+            }));
         }
     }
     places
