@@ -37,7 +37,7 @@ pub extern "C" fn merino_push(
         scores,
         Scored::new(new_packed, new_score),
     );
-    verdict.number()
+    refusal::verdict_number(verdict)
 }
 
 // Searches a posting list: search::search where `by_score` is 0, search::sort_and_search where it is 1; any other number does as 1, and is

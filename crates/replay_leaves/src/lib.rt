@@ -77,7 +77,7 @@ pub fn pushes_agree(w: &[u32]) -> bool
     let mut length = word(w, 2) as u64;
     let e = Scored::new(word(w, 3) as u64, float(w, 4));
     let verdict = kept_push::push(word(w, 1) as u64, &mut length, &mut packed, &mut scores, e);
-    (verdict.number() == 0)
+    (refusal::verdict_number(verdict) == 0)
         & (length == word(w, 5) as u64)
         & replay_expected::same(&packed, words_of(w, 8), 0)
         & replay_expected::same(&scores, words_of(w, 9), 0xffff_ffff)

@@ -4,4 +4,4 @@ use Rattle.merino.proofs.merino_push.Goals as goal
 
 pub returns : goal.returns
 returns c =
-    push-crosses _ _ _ _ _ _ _ c.number.ensures c.push-verdict.ensures c.new.ensures
+    push-crosses _ _ _ _ _ _ _ c.verdict_number.ensures c.push-verdict.ensures c.new.ensures
