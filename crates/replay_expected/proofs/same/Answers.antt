@@ -18,7 +18,7 @@ loop-i-preserved g c =
     let l = c.loop-i in
     let a = c.args in (
       omega arith,
-      held-step (map key a.numbers.now) a.expected.now a.rest l.i l.same c.number.result c.at_u32.result (omega (arith, length-map a.numbers.now key)) (c.number.ensures ∙ ap key c.index-numbers-i.is ∙ sym (map_at key a.numbers.now l.i _ 0 (omega arith))) c.at_u32.ensures l.invariant.1,
+      held-step (map key a.numbers.now) a.expected.now a.rest l.i l.same c.number.result c.at.result (omega (arith, length-map a.numbers.now key)) (c.number.ensures ∙ ap key c.index-numbers-i.is ∙ sym (map_at key a.numbers.now l.i _ 0 (omega arith))) c.at.ensures l.invariant.1,
     )
 
 pub returns : goal.returns
