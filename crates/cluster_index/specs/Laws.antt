@@ -4,3 +4,4 @@ pub mod Scores
 pub mod Lookup
 pub mod Walks
 pub mod Passes
+pub mod Steps

@@ -4,3 +4,4 @@ pub mod Covers
 pub mod Choice
 pub mod Nearest
 pub mod Zeros
+pub mod Places
