@@ -1,9 +1,9 @@
 -- Binary search finds the rank.
-use Rattle.std.specs.Prelude.{ℕ, zero, suc, ◌+◌, ◌≤◌, ◌<◌, ◌≡◌, refl, Bool, true, false, ◌||◌, List, [], ◌∷◌, length, get_or, eqb}
+use Rattle.std.specs.Prelude.{ℕ, zero, suc, ◌≤◌, ◌<◌, ◌≡◌, refl, Bool, true, false, ◌||◌, List, [], ◌∷◌, length, get_or, eqb}
 use Rattle.std.proofs.Common.{arith, sym, ap, ◌∙◌, true≢false, lt-ltb, le-ltb, eq-eqb, ne_eqb}
 use Rattle.sequences.specs.Lists.{EachOf, among}
 use Rattle.sequences.specs.Laws.Groups.{Against, less, same, more, against}
-use Rattle.cluster_meaning.specs.Laws.Ordered.{Ordered, ordered_at}
+use Rattle.cluster_meaning.specs.Laws.Ordered.{Ordered}
 use Rattle.cluster_meaning.specs.Laws.Ranks.{rank_of, rank_below}
 use Rattle.cluster_meaning.specs.Ranks.{Among}
 
@@ -14,13 +14,6 @@ rank-found (y ∷ l) x zero h p q =
     rw (le-ltb y x (q 0 (omega arith) (omega arith))) (rank-found l x 0 (omega arith) (λ k g. absurd (let z : ⊥ = omega arith in z)) (λ k g f. q (suc k) (omega arith) (omega arith)))
 rank-found (y ∷ l) x (suc r) h p q =
     rw (lt-ltb y x (p 0 (omega arith))) (ap suc (rank-found l x r (omega arith) (λ k g. p (suc k) (omega arith)) (λ k g f. q (suc k) (omega arith) (omega arith))))
-
--- what a step of the search learns
-pub lower-all : (l : List ℕ) (x m : ℕ) → Ordered l → m < length l → get_or l m 0 < x → (k : ℕ) → k < m + 1 → get_or l k 0 < x
-lower-all l x m o h g k f = let a = ordered_at l o k m (omega arith) h in omega arith
-
-pub upper-all : (l : List ℕ) (x m : ℕ) → Ordered l → x ≤ get_or l m 0 → (k : ℕ) → m ≤ k → k < length l → x ≤ get_or l k 0
-upper-all l x m o g k h f = let a = ordered_at l o m k h f in omega arith
 
 -- ---- whether a number is listed shows at its rank
 low-rank : (l : List ℕ) (x : ℕ) → EachOf (λ z. x ≤ z) l → rank_of l x ≡ 0
