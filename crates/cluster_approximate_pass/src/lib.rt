@@ -5,7 +5,7 @@
 ghost use Rattle.std.specs.Prelude.{◌≡◌, false, pos, length, replicate};
 ghost use Rattle.std.specs.Float.{fin};
 ghost use Rattle.documents.specs.Documents.{documents};
-ghost use Rattle.cluster_passes.specs.Ranked.{rank_in};
+ghost use Rattle.sort.specs.Ranked.{rank_in};
 ghost use Rattle.cluster_passes.specs.Passes.{over};
 ghost use Rattle.cluster_slots.specs.Met.{none, Clear};
 ghost use Rattle.cluster_approximate_pass.specs.Taking.{nearly_choice, again_rank};

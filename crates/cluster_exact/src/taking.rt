@@ -1,7 +1,7 @@
 // The documents taken, pass by pass: the first greatest score above 0 decides, and a listed centroid takes itself the first time.
 ghost use Rattle.std.specs.Prelude.{◌≡◌, ◌≤◌, length};
 ghost use Rattle.documents.specs.Documents.{documents};
-ghost use Rattle.cluster_passes.specs.Ranked.{rank_in};
+ghost use Rattle.sort.specs.Ranked.{rank_in};
 ghost use Rattle.cluster_passes.specs.Passes.{over};
 ghost use Rattle.cluster_exact.specs.Exact.{first_choice, second_rank};
 

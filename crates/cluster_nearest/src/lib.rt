@@ -5,9 +5,7 @@
 
 ghost use Rattle.std.specs.Prelude.{◌≡◌, min, length, take};
 ghost use mathlib.Core.List.{map, foldl, zip_with};
-ghost use Rattle.std.specs.Float.Ieee.{lt};
 ghost use Rattle.std.proofs.lemmas.List.Edits.{sets};
-ghost use Rattle.sequences.specs.Lists.{every};
 ghost use Rattle.documents.specs.Documents.{documents, terms, paired, largest};
 ghost use Rattle.documents.specs.TermKeys.{term_key, term_of};
 ghost use Rattle.cluster_nearest.specs.Scored.{scores_of};
@@ -89,17 +87,6 @@ fn last_of(first: Candidate, centroids: &[u64], sums: &[f32]) -> Candidate
     best
 }
 
-// Whether every score is below x. It looks at all of them, so that the machine takes several at once.
-fn all_below(x: f32, sums: &[f32]) -> bool
-    ensures { result ≡ every (λ s. lt s x) sums.now }
-{
-    let mut ok = true;
-    for &score in sums {
-        ok = ok & (score < x);
-    }
-    ok
-}
-
 // The last centroid with the greatest score; another document's id where there is none. Sixteen scores at a time that are all below the best
 // so far are passed over at once.
 pub fn last_greatest(otherwise: DocumentId, centroids: &[u64], sums: &[f32]) -> DocumentId
@@ -120,7 +107,7 @@ pub fn last_greatest(otherwise: DocumentId, centroids: &[u64], sums: &[f32]) -> 
     // sixteen at a time by place, since those that are left over follow after the loop
     while 16 <= n - i {
         let end = i + 16;
-        if !all_below(best.score, &sums[i..end]) {
+        if !float32::all_below(&sums[i..end], best.score) {
             best = last_of(best, &centroids[i..end], &sums[i..end]);
         }
         i = end;

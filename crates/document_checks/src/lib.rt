@@ -3,24 +3,32 @@
 #![tactic(auto)]
 
 ghost use Rattle.std.specs.Prelude.{◌≡◌, length};
+ghost use Rattle.sequences.specs.Lists.{never_falls};
 ghost use Rattle.documents.specs.Documents.{documents, terms};
 ghost use Rattle.documents.specs.Checks.{offsets_hold_free, offsets_hold, ids_hold, slices_hold, slices_hold_below, terms_hold_below, documents_hold};
 
 use number_types::DocumentId;
 
-// Whether the first offset is 0 and none falls; false where there are no offsets. One pass over the offsets, which leaves at none
-// of them, so that the compiler can take several at once.
+// Whether no offset lies below the one before it. One pass over the offsets, which leaves at none of them, so that the compiler can take
+// several at once.
+pub fn never_falls(offsets: &[u64]) -> bool
+    ensures { result ≡ never_falls offsets.now }
+{
+    let mut ok = true;
+    for i in 1..offsets.len() {
+        ok &= offsets[i - 1] <= offsets[i];
+    }
+    ok
+}
+
+// Whether the first offset is 0 and none falls; false where there are no offsets. One pass over the offsets.
 pub fn offsets_hold_free(offsets: &[u64]) -> bool
     ensures { result ≡ offsets_hold_free offsets.now }
 {
     if offsets.is_empty() {
         return false;
     }
-    let mut ok = offsets[0] == 0;
-    for i in 1..offsets.len() {
-        ok &= offsets[i - 1] <= offsets[i];
-    }
-    ok
+    (offsets[0] == 0) & never_falls(offsets)
 }
 
 // Whether, besides, the last offset is the number of terms, and the slices of the terms are equally long. One pass over the offsets.

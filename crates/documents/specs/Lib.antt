@@ -2,4 +2,5 @@ pub mod Documents
 pub mod Checks
 pub mod Answers
 pub mod TermKeys
+pub mod Sought
 pub mod Laws

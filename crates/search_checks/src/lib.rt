@@ -2,7 +2,7 @@
 #![tactic(auto)]
 
 ghost use Rattle.std.specs.Prelude.{◌≡◌, ◌≤◌, ltb, length as len};
-ghost use Rattle.sequences.specs.Lists.{every, never_falls, strictly_rise};
+ghost use Rattle.sequences.specs.Lists.{every, strictly_rise};
 ghost use Rattle.quantizing.specs.Quantizing.{minimum_allowed, step_allowed};
 ghost use Rattle.sparse_scores.specs.Layout.{arrays};
 ghost use Rattle.sparse_scores.specs.WellFormed.{blocks_hold, offsets_hold, well_formed};
@@ -10,19 +10,8 @@ ghost use Rattle.search_checks.specs.Counting.{falls, seam_at, seams, ids_counte
 
 use blocking::limits::{list_too_long, too_many_blocks};
 
-// Whether no offset lies below the one before it. This loop and those like it leave at no element, so that the compiler can take several at
-// once.
-fn never_fall(component_offsets: &[u64]) -> bool
-    ensures { result ≡ never_falls component_offsets.now }
-{
-    let mut ok = true;
-    for i in 1..component_offsets.len() {
-        ok &= component_offsets[i - 1] <= component_offsets[i];
-    }
-    ok
-}
-
-// Whether each component lies above the one before it.
+// Whether each component lies above the one before it. This loop and those like it leave at no element, so that the compiler can take
+// several at once.
 fn strictly_rise(summary_components: &[u32]) -> bool
     ensures { result ≡ strictly_rise summary_components.now }
 {
@@ -153,7 +142,7 @@ fn blocks_hold(postings: u64, blocks: u64, component_offsets: &[u64]) -> bool
     if last as u64 != blocks {
         return false;
     }
-    never_fall(component_offsets) & (component_offsets[last] <= postings)
+    document_checks::never_falls(component_offsets) & (component_offsets[last] <= postings)
 }
 
 // Whether component offsets start at 0, never fall, and end at the number of entries.
@@ -166,7 +155,7 @@ fn offsets_hold(component_offsets: &[u64], entries: u64) -> bool
     }
     let last = n - 1;
     (component_offsets[0] == 0)
-        & (never_fall(component_offsets) & (component_offsets[last] == entries))
+        & (document_checks::never_falls(component_offsets) & (component_offsets[last] == entries))
 }
 
 // Whether summary ids are below the number of summaries, and only a component's first one fails to lie above the one before it:

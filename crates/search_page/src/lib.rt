@@ -4,7 +4,7 @@
 ghost use Rattle.std.specs.Prelude.{◌≡◌, cond, ◌≤◌, ◌<◌, ◌+◌, ◌%◌, length, get_or, drop, set, ltb};
 ghost use Rattle.std.specs.Float.{nan, binary32};
 ghost use Rattle.std.specs.Float.Ieee.{of_bits, add, mul};
-ghost use Rattle.search_page.specs.Through.{laying, laid_sum, sieve_of, sought, looked, through, sum_of, last_fits, read_through, read_two};
+ghost use Rattle.search_page.specs.Through.{laying, laid_sum, sieve_of, looked, through, sum_of, last_fits, read_through, read_two};
 
 // The scores of two pages.
 #[derive(Clone, Copy)]
@@ -68,25 +68,12 @@ fn mark(sieve: &[u8; 4096], c: u32) -> u32
     wide(sieve[place])
 }
 
-// The first place from j on whose component is not below a.
-fn seek(query_components: &[u32], j: usize, a: u32) -> usize
-    ensures { result ≡ sought query_components.now j a }
-{
-    let n = query_components.len();
-    for k in j..n {
-        if a <= query_components[k] {
-            return k;
-        }
-    }
-    j.max(n)
-}
-
 // The sum with the product of one term, if the query has its component.
 fn look(a: u32, v: f32, s: Sum, query_components: &[u32], query_values: &[f32]) -> Sum
     ensures { result ≡ looked query_components.now query_values.now a v s }
 {
     let total = s.total;
-    let at = seek(query_components, s.at, a);
+    let at = documents::seek(query_components, s.at, a);
     if query_components.len() <= at {
         return Sum { total, at };
     }

@@ -19,28 +19,15 @@ fn clear(n: usize, block_scores: &mut [f32])
     block_scores[..n].fill(0.0);
 }
 
-// The first place from `from` on whose component is not below c.
-fn seek(summary_components: &[u32], from: usize, c: u32) -> usize
-    requires { from ≤ length summary_components.now }
-    ensures { result ≡ from + place_of c (drop from summary_components.now) }
-{
-    for at in from..summary_components.len() {
-        if c <= summary_components[at] {
-            return at;
-        }
-    }
-    summary_components.len()
-}
-
 // The place of c, looked for from the place `at` of the component looked for before; from the start, should the query's components fall.
 fn next_place(summary_components: &[u32], at: usize, last: u32, c: u32) -> usize
     requires { at ≡ place_of last summary_components.now }
     ensures { result ≡ place_of c summary_components.now }
 {
     if c < last {
-        return seek(summary_components, 0, c);
+        return documents::seek(summary_components, 0, c);
     }
-    seek(summary_components, at, c)
+    documents::seek(summary_components, at, c)
 }
 
 // Where the entries of a component start and end.

@@ -1,6 +1,6 @@
 -- `cluster_approximate_pass::first_pass` meets its contract.
 use Rattle.documents.specs.Documents.{documents}
-use Rattle.cluster_passes.specs.Ranked.{rank_in}
+use Rattle.sort.specs.Ranked.{rank_in}
 use Rattle.cluster_passes.specs.Passes.{over}
 use Rattle.cluster_passes.specs.Laws.Passes.{over-start}
 use Rattle.cluster_slots.specs.Met.{none}

@@ -1,7 +1,7 @@
 -- `cluster_approximate_pass::near_rank` meets its contract.
 use Rattle.documents.specs.Documents.{documents, terms, largest}
 use Rattle.documents.specs.TermKeys.{term_of}
-use Rattle.cluster_passes.specs.Ranked.{rank_in}
+use Rattle.sort.specs.Ranked.{rank_in}
 use Rattle.cluster_slots.specs.Laws.Zeros.{from-zeros}
 use mathlib.Core.Path.{sym, ap, ◌∙◌}
 use mathlib.Core.List.{map}

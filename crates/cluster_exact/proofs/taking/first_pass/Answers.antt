@@ -1,5 +1,5 @@
 -- `cluster_exact::taking::first_pass` meets its contract.
-use Rattle.cluster_passes.specs.Ranked.{rank_in}
+use Rattle.sort.specs.Ranked.{rank_in}
 use Rattle.documents.specs.Documents.{documents}
 use Rattle.cluster_passes.specs.Laws.Passes.{over-start, over-step, over-end}
 use Rattle.cluster_exact.specs.Exact.{first_choice}

@@ -2,7 +2,8 @@
 use mathlib.Core.Bool.{true, false, cond}
 use Rattle.cluster_nearest.specs.Scored.{scores_of}
 use Rattle.cluster_nearest.specs.Nearest.{first_above}
-use Rattle.cluster_passes.specs.Ranked.{rank_in, took_itself}
+use Rattle.sort.specs.Ranked.{rank_in}
+use Rattle.cluster_passes.specs.Ranked.{took_itself}
 use Rattle.documents.specs.Documents.{documents, terms}
 use mathlib.Core.Path.{◌≡◌, sym, ap, ◌∙◌}
 use lib.ListN.{length}
