@@ -3,7 +3,7 @@
 #![tactic(auto)]
 
 ghost use Rattle.std.specs.Prelude.{◌≡◌, length, ◌-◌};
-ghost use Rattle.documents.specs.Documents.{documents};
+ghost use Rattle.documents.specs.Lent.{lent};
 ghost use Rattle.summary_maximum.specs.Maximum.{block_terms, below};
 ghost use Rattle.summary_terms.specs.Summaries.{summary_of};
 ghost use Rattle.summary_terms.specs.Answers.{limit_of};
@@ -14,6 +14,7 @@ ghost use Rattle.build_count_pass.specs.Counting.{none_empty, full_first, counti
 ghost use Rattle.build_count_pass.specs.Turns.{noted, notes_keys, Turn, noted_from, Stores, stored_from};
 
 use configuration::SummarizationStrategy;
+use documents::Documents;
 use number_types::BlockNumber;
 
 // Whether a block's summary has a term, and the place of the store after its keys.
@@ -65,9 +66,7 @@ fn note_and_keep(
 fn count_block(
     dimension: u64,
     strategy: SummarizationStrategy,
-    offsets: &[u64],
-    components: &[u32],
-    values: &[f32],
+    documents: Documents<'_>,
     order: &[u64],
     blocks: &[u64],
     number: BlockNumber,
@@ -81,15 +80,14 @@ fn count_block(
     store: &mut [u64],
 ) -> Counted
     ensures turn { Turn number.0 (summary_of strategy (below (limit_of dimension (length keys.old) (length places.old) (length maxima.old)) (block_terms
-        (documents offsets.now components.now values.now) (block_at blocks.now order.now number.0))))
+        (lent documents.entry) (block_at blocks.now order.now number.0))))
         (noted entry_counts.old minimums.old steps.old) result.full (noted entry_counts.new minimums.new steps.new) }
     ensures store { Stores (summary_of strategy (below (limit_of dimension (length keys.old) (length places.old) (length maxima.old)) (block_terms
-        (documents offsets.now components.now values.now) (block_at blocks.now order.now number.0))))
+        (lent documents.entry) (block_at blocks.now order.now number.0))))
         at store.old result.next store.new }
 {
     let kept = build_block_summary::summarize_block(
-        dimension, strategy, offsets, components, values, order, blocks, number, keys, places,
-        maxima,
+        dimension, strategy, documents, order, blocks, number, keys, places, maxima,
     );
     if kept == 0 {
         return Counted {
@@ -116,9 +114,7 @@ fn count_block(
 fn count_blocks(
     dimension: u64,
     strategy: SummarizationStrategy,
-    offsets: &[u64],
-    components: &[u32],
-    values: &[f32],
+    documents: Documents<'_>,
     order: &[u64],
     blocks: &[u64],
     keys: &mut [u64],
@@ -130,23 +126,21 @@ fn count_blocks(
     store: &mut [u64],
 ) -> bool
     ensures answer { result ≡ none_empty (tops (limit_of dimension (length keys.old) (length places.old) (length maxima.old)) strategy
-        (documents offsets.now components.now values.now) order.now blocks.now) }
+        (lent documents.entry) order.now blocks.now) }
     ensures notes { noted entry_counts.new minimums.new steps.new
         ≡ noted_from 0 (tops (limit_of dimension (length keys.old) (length places.old) (length maxima.old)) strategy
-        (documents offsets.now components.now values.now) order.now blocks.now)
+        (lent documents.entry) order.now blocks.now)
         (noted entry_counts.old minimums.old steps.old) }
     ensures store { store.new
         ≡ stored_from 0 (tops (limit_of dimension (length keys.old) (length places.old) (length maxima.old)) strategy
-        (documents offsets.now components.now values.now) order.now blocks.now) store.old }
+        (lent documents.entry) order.now blocks.now) store.old }
 {
     let mut at = 0usize;
     for b in 0..blocks.len().saturating_sub(1) {
         let counted = count_block(
             dimension,
             strategy,
-            offsets,
-            components,
-            values,
+            documents,
             order,
             blocks,
             BlockNumber(b as u64),
@@ -177,9 +171,7 @@ fn count_blocks(
 pub fn count(
     dimension: u64,
     strategy: SummarizationStrategy,
-    offsets: &[u64],
-    components: &[u32],
-    values: &[f32],
+    documents: Documents<'_>,
     order: &[u64],
     blocks: &[u64],
     keys: &mut [u64],
@@ -191,23 +183,21 @@ pub fn count(
     store: &mut [u64],
 ) -> bool
     ensures answer { result ≡ none_empty (tops (limit_of dimension (length keys.old) (length places.old) (length maxima.old)) strategy
-        (documents offsets.now components.now values.now) order.now blocks.now) }
+        (lent documents.entry) order.now blocks.now) }
     ensures left { counting keys.new places.new maxima.new entry_counts.new minimums.new steps.new
         ≡ count_left (tops (limit_of dimension (length keys.old) (length places.old) (length maxima.old)) strategy
-        (documents offsets.now components.now values.now) order.now blocks.now) (counting keys.old
+        (lent documents.entry) order.now blocks.now) (counting keys.old
         places.old maxima.old entry_counts.old minimums.old steps.old) }
     ensures store { store.new
         ≡ kept_in (full_first (tops (limit_of dimension (length keys.old) (length places.old) (length maxima.old)) strategy
-        (documents offsets.now components.now values.now) order.now blocks.now)) store.old }
+        (lent documents.entry) order.now blocks.now)) store.old }
 {
     clearing::clear(entry_counts);
     clearing::clear(store);
     let full = count_blocks(
         dimension,
         strategy,
-        offsets,
-        components,
-        values,
+        documents,
         order,
         blocks,
         keys,

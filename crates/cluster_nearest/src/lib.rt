@@ -6,12 +6,16 @@
 ghost use Rattle.std.specs.Prelude.{◌≡◌, min, length, take};
 ghost use mathlib.Core.List.{map, foldl, zip_with};
 ghost use Rattle.std.proofs.lemmas.List.Edits.{sets};
-ghost use Rattle.documents.specs.Documents.{documents, terms, paired, largest};
+ghost use Rattle.documents.specs.Documents.{documents as documents_of, terms, paired, largest};
 ghost use Rattle.documents.specs.TermKeys.{term_key, term_of};
+ghost use Rattle.documents.specs.Lent.{lent};
 ghost use Rattle.cluster_nearest.specs.Scored.{scores_of};
 ghost use Rattle.cluster_nearest.specs.Keys.{KeysLeft};
 ghost use Rattle.cluster_nearest.specs.Nearest.{candidate, if_greater, if_no_less, first_above, last_no_less};
+ghost use Rattle.cluster_index.specs.Lent.{entries_lent};
 
+use cluster_index::Index;
+use documents::Documents;
 use number_types::DocumentId;
 
 // A centroid, by its document, with a document's score.
@@ -118,28 +122,22 @@ pub fn last_greatest(otherwise: DocumentId, centroids: &[u64], sums: &[f32]) -> 
 
 // The centroid that takes a document by all of its terms. The scores by slot stay in their slice.
 pub fn nearest_to(
-    offsets: &[u64],
-    components: &[u32],
-    values: &[f32],
+    documents: Documents<'_>,
     id: DocumentId,
     centroids: &[u64],
-    starts: &[u64],
-    slots: &[u64],
-    weights: &[f32],
+    index: Index<'_>,
     sums: &mut [f32],
 ) -> DocumentId
-    ensures sums { sums.new ≡ scores_of (documents starts.now slots.now weights.now) (length sums.old)
-        (terms (documents offsets.now components.now values.now) id.0) }
+    ensures sums { sums.new ≡ scores_of (entries_lent index.entry) (length sums.old)
+        (terms (lent documents.entry) id.0) }
     ensures answer { result.0 ≡ first_above centroids.now sums.new }
 {
     clearing::clear(sums);
-    let p = cluster_index::places_of(offsets, components, values, id);
+    let p = cluster_index::places_of(documents, id);
     cluster_index::add_terms(
-        starts,
-        slots,
-        weights,
-        &components[p.from..p.to],
-        &values[p.from..p.to],
+        index,
+        &documents.components[p.from..p.to],
+        &documents.values[p.from..p.to],
         sums,
     );
     first_above_zero(centroids, sums)
@@ -171,24 +169,16 @@ fn sort_keys(cut: usize, components: &[u32], values: &[f32], keys: &mut [u64]) -
 // Leaves the keys of a document's terms at the front of a slice, and answers how many of them are within a cut: these come first, the
 // largest at the start, and stand for so many of its largest terms. The others follow in some order. Terms that find no place are left
 // out. It takes time in proportion to the terms and to the sort of those within the cut; at worst to the sort of all.
-pub fn largest_keys(
-    offsets: &[u64],
-    components: &[u32],
-    values: &[f32],
-    id: DocumentId,
-    cut: u64,
-    keys: &mut [u64],
-) -> usize
-    ensures keys { KeysLeft cut (terms (documents offsets.now components.now values.now) id.0) keys.old keys.new }
-    ensures answer { result ≡ min cut (min (length (terms (documents offsets.now components.now values.now) id.0)) (length keys.old)) }
-    ensures terms { map term_of (take result keys.new) ≡ largest cut (take (length keys.old) (terms (documents offsets.now components.now
-        values.now) id.0)) }
+pub fn largest_keys(documents: Documents<'_>, id: DocumentId, cut: u64, keys: &mut [u64]) -> usize
+    ensures keys { KeysLeft cut (terms (lent documents.entry) id.0) keys.old keys.new }
+    ensures answer { result ≡ min cut (min (length (terms (lent documents.entry) id.0)) (length keys.old)) }
+    ensures terms { map term_of (take result keys.new) ≡ largest cut (take (length keys.old) (terms (lent documents.entry) id.0)) }
 {
-    let p = cluster_index::places_of(offsets, components, values, id);
+    let p = cluster_index::places_of(documents, id);
     let n = sort_keys(
         cut as usize,
-        &components[p.from..p.to],
-        &values[p.from..p.to],
+        &documents.components[p.from..p.to],
+        &documents.values[p.from..p.to],
         keys,
     );
     (cut as usize).min(n)

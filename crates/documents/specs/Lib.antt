@@ -1,4 +1,5 @@
 pub mod Documents
+pub mod Lent
 pub mod Checks
 pub mod Answers
 pub mod TermKeys
