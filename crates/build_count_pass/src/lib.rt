@@ -2,7 +2,7 @@
 // keeps stored for the second pass, as far as they find a place.
 #![tactic(auto)]
 
-ghost use Rattle.std.specs.Prelude.{◌≡◌, length, ◌-◌};
+ghost use Rattle.std.specs.Prelude.{is_some, unwrap_or, ◌≡◌, length, ◌-◌};
 ghost use Rattle.documents.specs.Lent.{lent};
 ghost use Rattle.summary_maximum.specs.Maximum.{block_terms, below};
 ghost use Rattle.summary_terms.specs.Summaries.{summary_of};
@@ -16,13 +16,6 @@ ghost use Rattle.build_count_pass.specs.Turns.{noted, notes_keys, Turn, noted_fr
 use configuration::SummarizationStrategy;
 use documents::Documents;
 use number_types::BlockNumber;
-
-// Whether a block's summary has a term, and the place of the store after its keys.
-#[derive(Drop)]
-struct Counted {
-    full: bool,
-    next: usize,
-}
 
 // Counts the terms that the keys stand for, and stores their least value and their step at the block's number.
 fn note(
@@ -61,8 +54,8 @@ fn note_and_keep(
     build_kept_keys::keep(at, keys, store)
 }
 
-// Summarizes the block with a number, notes its terms and stores its keys at a place; answers whether its summary has a term, and the
-// place after the keys. Otherwise nothing is noted or stored.
+// Summarizes the block with a number, notes its terms and stores its keys at a place; answers the place after the keys. Where its summary
+// has no term, nothing is noted or stored, and there is no answer.
 fn count_block(
     dimension: u64,
     strategy: SummarizationStrategy,
@@ -78,24 +71,21 @@ fn count_block(
     steps: &mut [f32],
     at: usize,
     store: &mut [u64],
-) -> Counted
+) -> Option<usize>
     ensures turn { Turn number.0 (summary_of strategy (below (limit_of dimension (length keys.old) (length places.old) (length maxima.old)) (block_terms
         (lent documents.entry) (block_at blocks.now order.now number.0))))
-        (noted entry_counts.old minimums.old steps.old) result.full (noted entry_counts.new minimums.new steps.new) }
+        (noted entry_counts.old minimums.old steps.old) (is_some result) (noted entry_counts.new minimums.new steps.new) }
     ensures store { Stores (summary_of strategy (below (limit_of dimension (length keys.old) (length places.old) (length maxima.old)) (block_terms
         (lent documents.entry) (block_at blocks.now order.now number.0))))
-        at store.old result.next store.new }
+        at store.old (unwrap_or result at) store.new }
 {
     let kept = build_block_summary::summarize_block(
         dimension, strategy, documents, order, blocks, number, keys, places, maxima,
     );
     if kept == 0 {
-        return Counted {
-            full: false,
-            next: at,
-        };
+        return None;
     }
-    let next = note_and_keep(
+    Some(note_and_keep(
         &keys[..kept],
         number,
         entry_counts,
@@ -103,11 +93,7 @@ fn count_block(
         steps,
         at,
         store,
-    );
-    Counted {
-        full: true,
-        next: next,
-    }
+    ))
 }
 
 // One block after another, up to the first whose summary is empty; answers whether there is none such.
@@ -137,7 +123,7 @@ fn count_blocks(
 {
     let mut at = 0usize;
     for b in 0..blocks.len().saturating_sub(1) {
-        let counted = count_block(
+        let next = count_block(
             dimension,
             strategy,
             documents,
@@ -153,10 +139,14 @@ fn count_blocks(
             at,
             store,
         );
-        if !counted.full {
-            return false;
+        match next {
+            Some(place) => {
+                at = place;
+            }
+            None => {
+                return false;
+            }
         }
-        at = counted.next;
     }
     true
 }

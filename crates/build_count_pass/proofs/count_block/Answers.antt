@@ -44,7 +44,7 @@ returns c =
     let block = block_at a.blocks.now a.order.now a.number.0 in
     let S = c.summarize_block-kept.ensures in
     let k = front-keys a.strategy (below n (block_terms d block)) a.keys.now a.places.now a.maxima.now _ _ _ _ S in
-    let N = c.note_and_keep-next in record {
+    let N = c.note_and_keep in record {
       turn = counted-turn a.number.0 (summary_of a.strategy (below n (block_terms d block))) (noted a.entry_counts.now a.minimums.now a.steps.now) _ S.answer c.if-kept-eq0.false
           (top-held a.strategy n d block c.args.documents.narrow c.args.documents.fit)
           _ k _ N.ensures.notes;

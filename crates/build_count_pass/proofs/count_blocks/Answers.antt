@@ -1,7 +1,8 @@
 -- Noting what is left, from the results so far, is noting all.
 use native.Mathlib.Omega.{arith}
 use Prim.Native.Nat.{◌+◌, ◌<◌}
-use mathlib.Core.Path.{refl, ◌∙◌}
+use Rattle.std.specs.Prelude.{not, is_some, unwrap_or}
+use mathlib.Core.Path.{refl, ap, sym, ◌∙◌}
 use lib.ListN.{length}
 use Rattle.documents.specs.Lent.{lent}
 use Rattle.summary_terms.specs.Answers.{limit_of}
@@ -13,19 +14,19 @@ use Rattle.build_count_pass.proofs.count_blocks.Goals as goal
 pub loop-b-init : goal.loop-b-init
 loop-b-init c = (refl, refl, refl, refl, refl, refl, (refl, refl), refl, refl)
 
-pub returns-then-not-counted : goal.returns-then-not-counted
-returns-then-not-counted c =
+pub returns-in-None : goal.returns-in-None
+returns-in-None c =
     let l = c.loop-b in let a = c.args in
     let taken : l.b + 1 < length a.blocks.now = omega arith in
     let d = lent a.documents in
     let n = limit_of a.dimension (length a.keys.now) (length a.places.now) (length a.maxima.now) in
     let e = tops_next a.blocks.now a.order.now l.b n a.strategy d taken _ (limit-same a.dimension (length a.keys.now) (length a.places.now) (length a.maxima.now) (length l.keys) (length l.places) (length l.maxima) l.invariant.0 l.invariant.1 l.invariant.2) in
-    let t = c.count_block-counted in
-    let r = rest-stop l.b _ _ _ (noted l.entry_counts l.minimums l.steps) _ _ e l.invariant.6 t.result.full _ t.ensures.turn c.if-not-counted.true in
+    let t = c.count_block-next in
+    let r = rest-stop l.b _ _ _ (noted l.entry_counts l.minimums l.steps) _ _ e l.invariant.6 _ _ t.ensures.turn (ap (λ x. not (is_some x)) c.in-None.is) in
     record {
       answer = r.0;
       notes = r.1;
-      store = store-stop l.at _ _ _ l.store _ e l.invariant.8 t.result.next _ t.ensures.store t.result.full t.ensures.turn.0 c.if-not-counted.true;
+      store = store-stop l.at _ _ _ l.store _ e l.invariant.8 _ _ t.ensures.store _ t.ensures.turn.0 (ap (λ x. not (is_some x)) c.in-None.is);
     }
 
 pub loop-b-preserved : goal.loop-b-preserved
@@ -35,16 +36,16 @@ loop-b-preserved c =
     let d = lent a.documents in
     let n = limit_of a.dimension (length a.keys.now) (length a.places.now) (length a.maxima.now) in
     let e = tops_next a.blocks.now a.order.now l.b n a.strategy d taken _ (limit-same a.dimension (length a.keys.now) (length a.places.now) (length a.maxima.now) (length l.keys) (length l.places) (length l.maxima) l.invariant.0 l.invariant.1 l.invariant.2) in
-    let t = c.count_block-counted in let kept = t.auto in (
+    let t = c.count_block-next in let kept = t.auto in (
       kept.keys ∙ l.invariant.0,
       kept.places ∙ l.invariant.1,
       kept.maxima ∙ l.invariant.2,
       kept.entry_counts ∙ l.invariant.3,
       kept.minimums ∙ l.invariant.4,
       kept.steps ∙ l.invariant.5,
-      rest-on l.b _ _ _ (noted l.entry_counts l.minimums l.steps) _ _ e l.invariant.6 t.result.full _ t.ensures.turn c.if-not-counted.false,
+      rest-on l.b _ _ _ (noted l.entry_counts l.minimums l.steps) _ _ e l.invariant.6 _ _ t.ensures.turn (ap (λ x. not (is_some x)) c.in-Some.is),
       kept.store ∙ l.invariant.7,
-      store-on l.at _ _ _ l.store _ e l.invariant.8 t.result.next _ t.ensures.store t.result.full t.ensures.turn.0 c.if-not-counted.false,
+      store-on l.at _ _ _ l.store _ e l.invariant.8 _ _ t.ensures.store _ t.ensures.turn.0 (ap (λ x. not (is_some x)) c.in-Some.is),
     )
 
 pub returns : goal.returns
