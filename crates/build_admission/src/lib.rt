@@ -17,7 +17,7 @@ use number_types::DocumentId;
 use packing::PackedPosting;
 use refusal::Refusal;
 
-// Whether the start of each listed range is below its limit, and whether no length is above its own.
+// Whether the start of each listed range is below its limit, and whether no length is above its own: two facts, neither a flag for the other.
 #[derive(Drop)]
 pub struct RangesFit {
     pub starts: bool,

@@ -17,7 +17,7 @@ use packing::PackedPosting;
 use search_probe::Answer;
 
 // A block's turn: whether k were kept, the block's score, the bar that it had to reach, which is the factor times the worst kept score,
-// and whether it was skipped.
+// and whether it was skipped. `full` is no flag for `bar`: the definition `turn_at` gives both of every turn.
 #[derive(Clone, Copy)]
 pub struct Turn {
     pub block: BlockNumber,

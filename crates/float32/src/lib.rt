@@ -47,7 +47,8 @@ pub fn value_of_key(k: u32) -> f32
     }
 }
 
-// Whether a stands at b or before it in IEEE 754's total order, a NaN above all else.
+// Whether a stands at b or before it in IEEE 754's total order, a NaN above all else. Compared by hand, since by `<=` of floats the two zeros
+// are equal and a NaN stands beside no number.
 pub fn at_most(a: f32, b: f32) -> bool
     ensures { result ≡ at_most a b }
 {

@@ -22,7 +22,8 @@ impl Scored {
         Self { packed, score }
     }
 
-    // Whether this one stands before the other: greater score first by total order; equal scores: smaller packed number first.
+    // Whether this one stands before the other: greater score first by total order; equal scores: smaller packed number first. Compared by
+    // hand, since a derived order would go by the fields as they stand, and floats have no total order of their own.
     pub fn better(self, other: Scored) -> bool
         ensures { result ≡ better self other }
     {

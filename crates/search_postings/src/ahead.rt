@@ -9,7 +9,8 @@ use packing::PackedPosting;
 // How many components, or values, there are in a cache line.
 const LINE: usize = 16;
 
-// The bits that are set in any of the components and visit bytes looked at, and whether no page's values looked at are below zero in sum.
+// The bits that are set in any of the components and visit bytes looked at, and whether no page's values looked at are below zero in sum: two
+// facts, neither a flag for the other.
 #[derive(Drop)]
 struct Seen {
     bits: u32,
