@@ -291,10 +291,7 @@ fn search_built(
     let mut block_scores = [0.0f32; ROOM];
     let mut block_order = [0u64; ROOM];
     let answer = search::sort_and_search(
-        Terms {
-            components: &query_components,
-            values: &query_values,
-        },
+        Terms::new(&query_components, &query_values),
         KEPT as u64,
         question.factor,
         Terms { components, values },
@@ -364,11 +361,7 @@ pub(crate) fn tell(rt: &impl Print, question: Question, documents: &Documents) -
         SummarizationStrategy::FixedSize {
             n_components: SUMMARY_TERMS,
         },
-        documents::Documents {
-            offsets: &documents.offsets,
-            components: &documents.components,
-            values: &documents.values,
-        },
+        documents::Documents::new(&documents.offsets, &documents.components, &documents.values),
         &ids[first..end],
         &[],
         &mut postings,

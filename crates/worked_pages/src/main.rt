@@ -110,26 +110,20 @@ fn search_two_blocks(rt: &impl Print) -> io::Result<()> {
     let mut visits = [0u8; 3];
     let mut dots = [0.0f32; 2];
     let answer = search::search(
-        Terms {
-            components: &[1u32],
-            values: &[1.0f32],
-        },
+        Terms::new(&[1], &[1.0]),
         1,
         0.5,
-        Terms {
-            components: &components,
-            values: &values,
-        },
+        Terms::new(&components, &values),
         &postings,
         &[0u64, 1u64, 2u64],
-        Summaries {
-            summary_components: &[1u32],
-            component_offsets: &[0u64, 2u64],
-            summary_ids: &[0u16, 1u16],
-            codes: &[5u8, 4u8],
-            minimums: &[0.0f32, 0.0f32],
-            steps: &[1.0f32, 1.0f32],
-        },
+        Summaries::new(
+            &[1u32],
+            &[0u64, 2u64],
+            &[0u16, 1u16],
+            &[5u8, 4u8],
+            &[0.0f32, 0.0f32],
+            &[1.0f32, 1.0f32],
+        ),
         &mut length,
         &mut packed,
         &mut scores,
