@@ -3,11 +3,12 @@ use native.Mathlib.Omega.{arith}
 use Prim.Native.Nat.{◌+◌, ◌<◌}
 use Rattle.std.specs.Prelude.{not, is_some, unwrap_or}
 use mathlib.Core.Path.{refl, ap, sym, ◌∙◌}
-use lib.ListN.{length}
+use lib.ListN.{length, drop}
 use Rattle.documents.specs.Lent.{lent}
 use Rattle.summary_terms.specs.Answers.{limit_of}
 use Rattle.build_block_summary.specs.Laws.Cuts.{tops_next, tops-none, limit-same}
-use Rattle.build_count_pass.specs.Turns.{noted}
+use Rattle.build_block_summary.specs.Blocks.{tops}
+use Rattle.build_count_pass.specs.Turns.{noted, stored_from}
 use Rattle.build_count_pass.proofs.Blocks.{rest-on, rest-stop, rest_end, store-on, store-stop, store-end}
 use Rattle.build_count_pass.proofs.count_blocks.Goals as goal
 
@@ -45,7 +46,8 @@ loop-b-preserved c =
       kept.steps ∙ l.invariant.5,
       rest-on l.b _ _ _ (noted l.entry_counts l.minimums l.steps) _ _ e l.invariant.6 _ _ t.ensures.turn (ap (λ x. not (is_some x)) c.in-Some.is),
       kept.store ∙ l.invariant.7,
-      store-on l.at _ _ _ l.store _ e l.invariant.8 _ _ t.ensures.store _ t.ensures.turn.0 (ap (λ x. not (is_some x)) c.in-Some.is),
+      ap (λ z. stored_from z (tops n a.strategy d a.order.now (drop (l.b + 1) a.blocks.now)) t.new.store) (sym (ap (λ x. unwrap_or x l.at) c.in-Some.is))
+      ∙ store-on l.at _ _ _ l.store _ e l.invariant.8 _ _ t.ensures.store _ t.ensures.turn.0 (ap (λ x. not (is_some x)) c.in-Some.is),
     )
 
 pub returns : goal.returns
