@@ -47,7 +47,7 @@ loop-b-preserved c =
       rest-on l.b _ _ _ (noted l.entry_counts l.minimums l.steps) _ _ e l.invariant.6 _ _ t.ensures.turn (ap (λ x. not (is_some x)) c.in-Some.is),
       kept.store ∙ l.invariant.7,
       ap (λ z. stored_from z (tops n a.strategy d a.order.now (drop (l.b + 1) a.blocks.now)) t.new.store) (sym (ap (λ x. unwrap_or x l.at) c.in-Some.is))
-      ∙ store-on l.at _ _ _ l.store _ e l.invariant.8 _ _ t.ensures.store _ t.ensures.turn.0 (ap (λ x. not (is_some x)) c.in-Some.is),
+          ∙ store-on l.at _ _ _ l.store _ e l.invariant.8 _ _ t.ensures.store _ t.ensures.turn.0 (ap (λ x. not (is_some x)) c.in-Some.is),
     )
 
 pub returns : goal.returns
