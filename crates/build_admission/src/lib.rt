@@ -34,7 +34,7 @@ fn outside_limits(dimension: u64, ids: u64) -> bool
     blocking::limits::dimension_outside(dimension)
 }
 
-// How many of the listed centroids are used: fixed blocking takes none.
+// How many of the listed centroids are used, by a match, since each variant has what its step needs: fixed blocking takes none.
 pub fn centroids_taken(blocking: BlockingStrategy, centroids: usize) -> usize
     ensures { result ≡ taken_of blocking centroids }
 {
@@ -109,7 +109,7 @@ fn wrong_centroids(fraction: f32, ids: u64, listed: u64) -> bool
     }
 }
 
-// Refusals 3 and 8, or 5: how the list is to be blocked.
+// Refusals 3 and 8, or 5: how the list is to be blocked, by a match, since each variant has what its step needs.
 fn blocking_verdict(blocking: BlockingStrategy, ids: u64, listed: u64) -> Result<(), Refusal>
     ensures { result ≡ first_of (blocking_faults blocking ids listed) }
 {

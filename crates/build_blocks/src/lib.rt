@@ -137,6 +137,7 @@ pub fn make(
         dimension, blocking, documents, ids, centroids, order, blocks, sorted, known, taken,
         counts, starts, slots, weights, sums, keys,
     )?;
+    // a match, since each variant has what its step needs
     match blocking {
         BlockingStrategy::FixedSize { block_size } => Ok(cut(block_size, ids, order, blocks)),
         BlockingStrategy::RandomKmeans {

@@ -46,7 +46,7 @@ fn show(answer: Answer, position: &mut u64, evaluated: &mut u64, skipped: &mut u
 }
 
 // A search and its numbers: search::search where `by_score` is 0, search::sort_and_search where it is 1; any other number does as 1, and is
-// reserved. `position` is left with the posting at which 13 or 14 stopped the search, `evaluated` and `skipped` with the counts of a
+// reserved (C gives a number). `position` is left with the posting at which 13 or 14 stopped the search, `evaluated` and `skipped` with the counts of a
 // search that was not stopped; else they are 0.
 pub fn find(
     by_score: u64,

@@ -10,7 +10,7 @@ ghost use Rattle.cluster_by_mode.specs.Modes.{ranks_by, fitting};
 use configuration::ClusteringAlgorithm;
 use documents::Documents;
 
-// Takes each document by the rank of its centroid in a list of known ones.
+// Takes each document by the rank of its centroid in a list of known ones, in the chosen mode: by a match, since each variant has what its step needs.
 fn take_by(
     algorithm: ClusteringAlgorithm,
     minimum: u64,

@@ -1,5 +1,5 @@
 // The kept list: the k best ranges found so far, best first. It lies in lent memory as two slices side by side, packed
-// numbers and scores, with the number of entries beside them. A push with its refusals stands in crate kept_push.
+// numbers and scores, with the number of entries beside them, as the C functions are lent it. A push with its refusals stands in crate kept_push.
 #![tactic(auto)]
 
 ghost use Rattle.std.specs.Prelude.{◌≡◌, ◌≤◌, ◌<◌, ◌+◌, ◌-◌, length as len};

@@ -21,7 +21,8 @@ pub struct Extent {
 }
 
 // The least and the greatest of the values, in one pass; a NaN each where there is no value.
-// It compares keys, so the bound on all values is the bound on these two.
+// It compares keys, so the bound on all values is the bound on these two. Its like over terms' keys stands in crate sparse_layout: one
+// function over an iterator would ask of its callers that it ends, and these two ask nothing.
 pub fn extent_of(values: &[f32]) -> Extent
     ensures { result ≡ extent_of values.now }
 {

@@ -48,7 +48,7 @@ impl Refusal {
     }
 }
 
-// The number of an answer: 0 where the call is accepted, else the refusal's.
+// The number of an answer, for the C functions, which answer in numbers: 0 where the call is accepted, else the refusal's.
 pub fn verdict_number(verdict: Result<(), Refusal>) -> u64
     ensures { result ≡ verdict_number verdict }
 {

@@ -185,7 +185,8 @@ fn score_and_order(
 }
 
 // The same with the blocks of greater score first, and of equal ones the smaller number. `block_order` is left with the block numbers in the
-// order of their turns at its front.
+// order of their turns at its front. It stands beside `search`, since each has a promise of its own and only this one is lent an order; what
+// they share both call.
 pub fn sort_and_search(
     query: Terms<'_>,
     k: u64,

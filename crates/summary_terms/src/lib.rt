@@ -47,7 +47,7 @@ fn reached(keys: &[u64], goal: f32) -> usize
     keys.len()
 }
 
-// How many of the keys, the greatest first, a summary keeps.
+// How many of the keys, the greatest first, a summary keeps: by a match, since each variant has what its step needs.
 fn kept_of(keys: &[u64], strategy: SummarizationStrategy) -> usize
     ensures { result ≡ kept_count strategy (map value_of_term keys.now) }
 {

@@ -1,5 +1,6 @@
 // The story of one search, in the order in which it is printed: what it found, its turns, why each page of the list that is not kept is
-// not, and what that shows. Then how the list is built and searched.
+// not, and what that shows. Then how the list is built and searched. A line is printed by a function, since it tells of several values; each
+// value prints itself.
 use crate::pages::{self, Documents, Term};
 use crate::text::Hundredths;
 use configuration::{BlockingStrategy, SummarizationStrategy};

@@ -1,5 +1,6 @@
 // Document 01's worked pages, run through the proved functions, one line for each: those that are proved as one table in
-// crates/worked_cases/specs/Laws/Pages.antt, and then those that are only to be run.
+// crates/worked_cases/specs/Laws/Pages.antt, and then those that are only to be run. A line is printed by a function, since it tells of several
+// values.
 #![tactic(auto)]
 
 use documents::Terms;
