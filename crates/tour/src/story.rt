@@ -6,6 +6,7 @@ use configuration::{BlockingStrategy, SummarizationStrategy};
 use documents::Terms;
 use explain::{Fate, Turn};
 use packing::PackedPosting;
+use search_held::Turns;
 use search_probe::Answer;
 use sparse_scores::summaries::Summaries;
 use std::io;
@@ -218,6 +219,11 @@ fn tell_course(
         values: query_values,
     };
     let terms = Terms { components, values };
+    let course = Turns {
+        block_offsets,
+        block_scores,
+        block_order,
+    };
     for t in 0..turns {
         let seen = explain_small::see_turn(
             t,
@@ -226,9 +232,7 @@ fn tell_course(
             question.factor,
             terms,
             postings,
-            block_offsets,
-            block_scores,
-            block_order,
+            course,
         );
         say_turn(rt, t, seen)?;
     }
@@ -245,9 +249,7 @@ fn tell_course(
                 question.factor,
                 terms,
                 postings,
-                block_offsets,
-                block_scores,
-                block_order,
+                course,
             );
             let page = page_at(question, i);
             if say_left(rt, page, pages::score(page, question.bay), fate, worst)? {
