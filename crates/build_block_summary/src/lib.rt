@@ -12,31 +12,36 @@ use configuration::SummarizationStrategy;
 use documents::Documents;
 use number_types::BlockNumber;
 
-// Summarizes the block with a number, as `summary_terms::summarize` does: `order` has the documents of all blocks, and `blocks` where
-// each block starts and where the last one ends. What lies past the documents is cut, and a number past the blocks is that of an empty
-// block. Leaves the keys of the terms that the summary keeps in front of `keys`, and answers how many they are.
+// The blocks of a list as they are lent: the documents of all of them in block order, and where each starts and the last one ends.
+#[derive(Clone, Copy)]
+pub struct Blocks<'a> {
+    pub order: &'a [u64],
+    pub blocks: &'a [u64],
+}
+
+// Summarizes the block with a number, as `summary_terms::summarize` does. What lies past the documents is cut, and a number past the
+// blocks is that of an empty block. Leaves the keys of the terms that the summary keeps in front of `keys`, and answers how many they are.
 pub fn summarize_block(
     dimension: u64,
     strategy: SummarizationStrategy,
     documents: Documents<'_>,
-    order: &[u64],
-    blocks: &[u64],
+    listed: Blocks<'_>,
     number: BlockNumber,
     keys: &mut [u64],
     places: &mut [u64],
     maxima: &mut [f32],
 ) -> usize
     ensures { Summarizes strategy (below (limit_of dimension (length keys.old) (length places.old) (length maxima.old))
-        (block_terms (lent documents.entry) (block_at blocks.now order.now number.0)))
+        (block_terms (lent documents.entry) (block_at listed.entry.blocks.now listed.entry.order.now number.0)))
         keys.old places.old maxima.old result keys.new places.new maxima.new }
 {
-    let at = documents::places_at(blocks, order.len(), number.0);
+    let at = documents::places_at(listed.blocks, listed.order.len(), number.0);
     let from = at.from;
     let to = at.to;
     summary_terms::summarize(
         dimension,
         documents,
-        &order[from..to],
+        &listed.order[from..to],
         strategy,
         keys,
         places,

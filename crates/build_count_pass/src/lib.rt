@@ -13,6 +13,7 @@ ghost use Rattle.build_kept_keys.specs.Frames.{frame, place_after, kept_in};
 ghost use Rattle.build_count_pass.specs.Counting.{none_empty, full_first, counting, count_left};
 ghost use Rattle.build_count_pass.specs.Turns.{noted, notes_keys, Turn, noted_from, Stores, stored_from};
 
+use build_block_summary::Blocks;
 use configuration::SummarizationStrategy;
 use documents::Documents;
 use number_types::BlockNumber;
@@ -60,8 +61,7 @@ fn count_block(
     dimension: u64,
     strategy: SummarizationStrategy,
     documents: Documents<'_>,
-    order: &[u64],
-    blocks: &[u64],
+    listed: Blocks<'_>,
     number: BlockNumber,
     keys: &mut [u64],
     places: &mut [u64],
@@ -73,14 +73,14 @@ fn count_block(
     store: &mut [u64],
 ) -> Option<usize>
     ensures turn { Turn number.0 (summary_of strategy (below (limit_of dimension (length keys.old) (length places.old) (length maxima.old)) (block_terms
-        (lent documents.entry) (block_at blocks.now order.now number.0))))
+        (lent documents.entry) (block_at listed.entry.blocks.now listed.entry.order.now number.0))))
         (noted entry_counts.old minimums.old steps.old) (is_some result) (noted entry_counts.new minimums.new steps.new) }
     ensures store { Stores (summary_of strategy (below (limit_of dimension (length keys.old) (length places.old) (length maxima.old)) (block_terms
-        (lent documents.entry) (block_at blocks.now order.now number.0))))
+        (lent documents.entry) (block_at listed.entry.blocks.now listed.entry.order.now number.0))))
         at store.old (unwrap_or result at) store.new }
 {
     let kept = build_block_summary::summarize_block(
-        dimension, strategy, documents, order, blocks, number, keys, places, maxima,
+        dimension, strategy, documents, listed, number, keys, places, maxima,
     );
     if kept == 0 {
         return None;
@@ -101,8 +101,7 @@ fn count_blocks(
     dimension: u64,
     strategy: SummarizationStrategy,
     documents: Documents<'_>,
-    order: &[u64],
-    blocks: &[u64],
+    listed: Blocks<'_>,
     keys: &mut [u64],
     places: &mut [u64],
     maxima: &mut [f32],
@@ -112,23 +111,22 @@ fn count_blocks(
     store: &mut [u64],
 ) -> bool
     ensures answer { result ≡ none_empty (tops (limit_of dimension (length keys.old) (length places.old) (length maxima.old)) strategy
-        (lent documents.entry) order.now blocks.now) }
+        (lent documents.entry) listed.entry.order.now listed.entry.blocks.now) }
     ensures notes { noted entry_counts.new minimums.new steps.new
         ≡ noted_from 0 (tops (limit_of dimension (length keys.old) (length places.old) (length maxima.old)) strategy
-        (lent documents.entry) order.now blocks.now)
+        (lent documents.entry) listed.entry.order.now listed.entry.blocks.now)
         (noted entry_counts.old minimums.old steps.old) }
     ensures store { store.new
         ≡ stored_from 0 (tops (limit_of dimension (length keys.old) (length places.old) (length maxima.old)) strategy
-        (lent documents.entry) order.now blocks.now) store.old }
+        (lent documents.entry) listed.entry.order.now listed.entry.blocks.now) store.old }
 {
     let mut at = 0usize;
-    for b in 0..blocks.len().saturating_sub(1) {
+    for b in 0..listed.blocks.len().saturating_sub(1) {
         let next = count_block(
             dimension,
             strategy,
             documents,
-            order,
-            blocks,
+            listed,
             BlockNumber(b as u64),
             keys,
             places,
@@ -152,9 +150,9 @@ fn count_blocks(
 }
 
 // Counts how often each component comes in the summaries of a list's blocks, and stores the minimum and the step of each block at its
-// number; one that finds no place there is left out. `order` has the documents of the blocks, and `blocks` where each block starts and
-// where the last one ends; what lies past the documents is cut. The counts start from zero, whatever they held. Terms whose components
-// find no place in keys, places or maxima, or are not below the dimension, are left out of the summaries; nothing is asked of them.
+// number; one that finds no place there is left out. What lies past the documents is cut. The counts start from zero, whatever they
+// held. Terms whose components find no place in keys, places or maxima, or are not below the dimension, are left out of the summaries;
+// nothing is asked of them.
 // Stops before the first block whose summary is empty, and answers whether there is none such. The store has the keys that each block
 // keeps, one block after another up to the first that finds no place, and zeros behind, whatever it held. Keys, places and maxima are work
 // space, left all zero. The cost goes by the terms of the blocks' documents, the sorts of each block's components, and the store's length.
@@ -162,8 +160,7 @@ pub fn count(
     dimension: u64,
     strategy: SummarizationStrategy,
     documents: Documents<'_>,
-    order: &[u64],
-    blocks: &[u64],
+    listed: Blocks<'_>,
     keys: &mut [u64],
     places: &mut [u64],
     maxima: &mut [f32],
@@ -173,14 +170,14 @@ pub fn count(
     store: &mut [u64],
 ) -> bool
     ensures answer { result ≡ none_empty (tops (limit_of dimension (length keys.old) (length places.old) (length maxima.old)) strategy
-        (lent documents.entry) order.now blocks.now) }
+        (lent documents.entry) listed.entry.order.now listed.entry.blocks.now) }
     ensures left { counting keys.new places.new maxima.new entry_counts.new minimums.new steps.new
         ≡ count_left (tops (limit_of dimension (length keys.old) (length places.old) (length maxima.old)) strategy
-        (lent documents.entry) order.now blocks.now) (counting keys.old
+        (lent documents.entry) listed.entry.order.now listed.entry.blocks.now) (counting keys.old
         places.old maxima.old entry_counts.old minimums.old steps.old) }
     ensures store { store.new
         ≡ kept_in (full_first (tops (limit_of dimension (length keys.old) (length places.old) (length maxima.old)) strategy
-        (lent documents.entry) order.now blocks.now)) store.old }
+        (lent documents.entry) listed.entry.order.now listed.entry.blocks.now)) store.old }
 {
     clearing::clear(entry_counts);
     clearing::clear(store);
@@ -188,8 +185,7 @@ pub fn count(
         dimension,
         strategy,
         documents,
-        order,
-        blocks,
+        listed,
         keys,
         places,
         maxima,

@@ -14,6 +14,7 @@ ghost use Rattle.build_kept_keys.specs.Frames.{behind, recalled_top, recalled};
 ghost use Rattle.build_fill_pass.specs.Filling.{filling, placed_in, fill_left};
 ghost use Rattle.build_fill_pass.specs.Turns.{key_entries};
 
+use build_block_summary::Blocks;
 use configuration::SummarizationStrategy;
 use documents::Documents;
 use number_types::BlockNumber;
@@ -40,8 +41,7 @@ fn fill_block(
     dimension: u64,
     strategy: SummarizationStrategy,
     documents: Documents<'_>,
-    order: &[u64],
-    blocks: &[u64],
+    listed: Blocks<'_>,
     number: BlockNumber,
     keys: &mut [u64],
     places: &mut [u64],
@@ -54,10 +54,10 @@ fn fill_block(
         (lent cursors.old
         summary_ids.old codes.old)
         (entries_of (number.0 % 65536) (summary_of strategy (below (limit_of dimension (length keys.old) (length places.old) (length maxima.old)) (block_terms
-        (lent_documents documents.entry) (block_at blocks.now order.now number.0))))) }
+        (lent_documents documents.entry) (block_at listed.entry.blocks.now listed.entry.order.now number.0))))) }
 {
     let kept = build_block_summary::summarize_block(
-        dimension, strategy, documents, order, blocks, number, keys, places, maxima,
+        dimension, strategy, documents, listed, number, keys, places, maxima,
     );
     place(number, &keys[..kept], cursors, summary_ids, codes);
 }
@@ -68,8 +68,7 @@ fn fill_next(
     dimension: u64,
     strategy: SummarizationStrategy,
     documents: Documents<'_>,
-    order: &[u64],
-    blocks: &[u64],
+    listed: Blocks<'_>,
     number: BlockNumber,
     keys: &mut [u64],
     places: &mut [u64],
@@ -85,7 +84,7 @@ fn fill_next(
         ≡ placed_within (min (length summary_ids.old) (length codes.old)) (lent cursors.old summary_ids.old codes.old)
         (entries_of (number.0 % 65536) (recalled_top (drop at store.now) (summary_of strategy (below (limit_of dimension (length keys.old) (length places.old)
         (length maxima.old)) (block_terms (lent_documents documents.entry)
-        (block_at blocks.now order.now number.0)))))) }
+        (block_at listed.entry.blocks.now listed.entry.order.now number.0)))))) }
 {
     let kept = build_kept_keys::frame_length(at, store);
     if kept == 0 {
@@ -93,8 +92,7 @@ fn fill_next(
             dimension,
             strategy,
             documents,
-            order,
-            blocks,
+            listed,
             number,
             keys,
             places,
@@ -116,8 +114,7 @@ fn fill_blocks(
     dimension: u64,
     strategy: SummarizationStrategy,
     documents: Documents<'_>,
-    order: &[u64],
-    blocks: &[u64],
+    listed: Blocks<'_>,
     keys: &mut [u64],
     places: &mut [u64],
     maxima: &mut [f32],
@@ -129,16 +126,15 @@ fn fill_blocks(
     ensures { lent cursors.new summary_ids.new codes.new
         ≡ placed_in (lent cursors.old summary_ids.old codes.old) (recalled store.now (tops (limit_of dimension (length keys.old)
         (length places.old) (length maxima.old)) strategy (lent_documents documents.entry)
-        order.now blocks.now)) }
+        listed.entry.order.now listed.entry.blocks.now)) }
 {
     let mut at = 0usize;
-    for b in 0..blocks.len().saturating_sub(1) {
+    for b in 0..listed.blocks.len().saturating_sub(1) {
         at = fill_next(
             dimension,
             strategy,
             documents,
-            order,
-            blocks,
+            listed,
             BlockNumber(b as u64),
             keys,
             places,
@@ -162,8 +158,7 @@ pub fn fill(
     dimension: u64,
     strategy: SummarizationStrategy,
     documents: Documents<'_>,
-    order: &[u64],
-    blocks: &[u64],
+    listed: Blocks<'_>,
     keys: &mut [u64],
     places: &mut [u64],
     maxima: &mut [f32],
@@ -174,15 +169,14 @@ pub fn fill(
 )
     ensures { filling keys.new places.new maxima.new (lent cursors.new summary_ids.new codes.new)
         ≡ fill_left (recalled store.now (tops (limit_of dimension (length keys.old) (length places.old) (length maxima.old)) strategy
-        (lent_documents documents.entry) order.now blocks.now)) (filling keys.old
+        (lent_documents documents.entry) listed.entry.order.now listed.entry.blocks.now)) (filling keys.old
         places.old maxima.old (lent cursors.old summary_ids.old codes.old)) }
 {
     fill_blocks(
         dimension,
         strategy,
         documents,
-        order,
-        blocks,
+        listed,
         keys,
         places,
         maxima,

@@ -8,15 +8,15 @@ ghost use Rattle.build_count_pass.specs.Counting.{counting};
 ghost use Rattle.build_meaning.specs.Building.{outputs, output_lengths, zeros};
 ghost use Rattle.build_layout.specs.Laid.{built_from, laid_verdict, left, left_by};
 
+use build_block_summary::Blocks;
 use build_meaning::BuiltSizes;
 use build_sizes::OutputLengths;
 use configuration::SummarizationStrategy;
 use documents::Documents;
 use refusal::Refusal;
 
-// Writes the result of a build: `order` has the list's documents in block order, and `blocks` where each block starts and where the
-// last one ends. Each output buffer has its part of the result in front, and past it nothing changes; a document whose range cannot be
-// packed counts as 0, and terms from the dimension on are left out. Refuses a dimension outside its limits or more blocks than there may
+// Writes the result of a build from the list's blocks. Each output buffer has its part of the result in front, and past it nothing
+// changes; a document whose range cannot be packed counts as 0, and terms from the dimension on are left out. Refuses a dimension outside its limits or more blocks than there may
 // be (8), work space of fewer places than the dimension (4), a block whose summary is empty (7), and output too short for the result (4):
 // all output is zero then. The work space and the store are zero either way. The first of two passes over the blocks takes time in
 // proportion to the terms of their documents, to n log n for the n components of each block, which are sorted, and to the documents, the
@@ -26,8 +26,7 @@ pub fn write(
     dimension: u64,
     strategy: SummarizationStrategy,
     documents: Documents<'_>,
-    order: &[u64],
-    blocks: &[u64],
+    listed: Blocks<'_>,
     postings: &mut [u64],
     block_offsets: &mut [u64],
     summary_components: &mut [u32],
@@ -45,10 +44,10 @@ pub fn write(
     ensures left { left result (outputs postings.new block_offsets.new summary_components.new component_offsets.new
         summary_ids.new codes.new minimums.new steps.new) keys.new places.new maxima.new
         entry_counts.new ≡ left_by (laid_verdict dimension strategy (lent_documents documents.entry)
-        order.now blocks.now (counting keys.old places.old maxima.old entry_counts.old
+        listed.entry.order.now listed.entry.blocks.now (counting keys.old places.old maxima.old entry_counts.old
         minimums.old steps.old) (output_lengths (outputs postings.old block_offsets.old summary_components.old
         component_offsets.old summary_ids.old codes.old minimums.old steps.old))) (built_from dimension strategy
-        (lent_documents documents.entry) order.now blocks.now) (outputs postings.old
+        (lent_documents documents.entry) listed.entry.order.now listed.entry.blocks.now) (outputs postings.old
         block_offsets.old summary_components.old component_offsets.old summary_ids.old codes.old
         minimums.old steps.old) keys.old places.old maxima.old entry_counts.old }
     ensures store { store.new ≡ zeros store.old }
@@ -67,8 +66,7 @@ pub fn write(
         dimension,
         strategy,
         documents,
-        order,
-        blocks,
+        listed,
         keys,
         places,
         maxima,
@@ -83,8 +81,7 @@ pub fn write(
         dimension,
         strategy,
         documents,
-        order,
-        blocks,
+        listed,
         postings,
         block_offsets,
         summary_components,

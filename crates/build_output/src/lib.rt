@@ -11,6 +11,7 @@ ghost use Rattle.build_sizes.specs.Sized.{posting_of};
 ghost use Rattle.build_output.specs.Placed.{written, second_pass};
 ghost use Rattle.build_output.specs.Settled.{left, settled};
 
+use build_block_summary::Blocks;
 use build_meaning::BuiltSizes;
 use configuration::SummarizationStrategy;
 use documents::Documents;
@@ -53,8 +54,7 @@ fn place(
     dimension: u64,
     strategy: SummarizationStrategy,
     documents: Documents<'_>,
-    order: &[u64],
-    blocks: &[u64],
+    listed: Blocks<'_>,
     keys: &mut [u64],
     places: &mut [u64],
     maxima: &mut [f32],
@@ -69,7 +69,7 @@ fn place(
 )
     ensures output { written postings.new block_offsets.new summary_components.new component_offsets.new
         summary_ids.new codes.new ≡ second_pass dimension strategy (lent documents.entry)
-        order.now blocks.now store.now keys.old places.old maxima.old entry_counts.old
+        listed.entry.order.now listed.entry.blocks.now store.now keys.old places.old maxima.old entry_counts.old
         (written postings.old block_offsets.old summary_components.old component_offsets.old
         summary_ids.old codes.old) }
     ensures keys { keys.new ≡ zeros keys.old }
@@ -87,8 +87,7 @@ fn place(
         dimension,
         strategy,
         documents,
-        order,
-        blocks,
+        listed,
         keys,
         places,
         maxima,
@@ -98,8 +97,8 @@ fn place(
         store,
     );
     clearing::clear(entry_counts);
-    write_postings(documents.offsets, order, postings);
-    write_offsets(blocks, block_offsets);
+    write_postings(documents.offsets, listed.order, postings);
+    write_offsets(listed.blocks, block_offsets);
 }
 
 // Ends a build whose entries were counted: where the first pass answered that there is room, the second writes the result, each part in
@@ -113,8 +112,7 @@ pub fn settle(
     dimension: u64,
     strategy: SummarizationStrategy,
     documents: Documents<'_>,
-    order: &[u64],
-    blocks: &[u64],
+    listed: Blocks<'_>,
     postings: &mut [u64],
     block_offsets: &mut [u64],
     summary_components: &mut [u32],
@@ -132,7 +130,7 @@ pub fn settle(
     ensures { left result (outputs postings.new block_offsets.new summary_components.new component_offsets.new
         summary_ids.new codes.new minimums.new steps.new) keys.new places.new maxima.new
         entry_counts.new ≡ settled answer dimension strategy (lent documents.entry)
-        order.now blocks.now store.now (outputs postings.old block_offsets.old summary_components.old
+        listed.entry.order.now listed.entry.blocks.now store.now (outputs postings.old block_offsets.old summary_components.old
         component_offsets.old summary_ids.old codes.old minimums.old steps.old) keys.old
         places.old maxima.old entry_counts.old }
 {
@@ -156,8 +154,7 @@ pub fn settle(
                 dimension,
                 strategy,
                 documents,
-                order,
-                blocks,
+                listed,
                 keys,
                 places,
                 maxima,

@@ -8,6 +8,7 @@ ghost use Rattle.build_meaning.specs.Building.{outputs};
 ghost use Rattle.build_layout.specs.Laid.{left};
 ghost use Rattle.build_result.specs.Finished.{finished, finished_by, slots_by};
 
+use build_block_summary::Blocks;
 use build_meaning::BuiltSizes;
 use configuration::SummarizationStrategy;
 use documents::Documents;
@@ -68,8 +69,10 @@ pub fn finish(
                 dimension,
                 summarization,
                 documents,
-                &order[..ordered],
-                &blocks[..starting],
+                Blocks {
+                    order: &order[..ordered],
+                    blocks: &blocks[..starting],
+                },
                 postings,
                 block_offsets,
                 summary_components,

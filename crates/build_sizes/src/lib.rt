@@ -7,6 +7,7 @@ ghost use Rattle.build_count_pass.specs.Counting.{counting};
 ghost use Rattle.refusal.specs.First.{first_of};
 ghost use Rattle.build_sizes.specs.Sized.{work_tests, room_of, room_answer, Measures, measured_store};
 
+use build_block_summary::Blocks;
 use build_meaning::BuiltSizes;
 use configuration::SummarizationStrategy;
 use documents::Documents;
@@ -86,8 +87,7 @@ pub fn measure(
     dimension: u64,
     strategy: SummarizationStrategy,
     documents: Documents<'_>,
-    order: &[u64],
-    blocks: &[u64],
+    listed: Blocks<'_>,
     keys: &mut [u64],
     places: &mut [u64],
     maxima: &mut [f32],
@@ -97,17 +97,18 @@ pub fn measure(
     lent: OutputLengths,
     store: &mut [u64],
 ) -> Result<BuiltSizes, Refusal>
-    ensures left { Measures dimension strategy (lent_documents documents.entry) order.now
-        blocks.now (counting keys.old places.old maxima.old entry_counts.old minimums.old
+    ensures left { Measures dimension strategy (lent_documents documents.entry) listed.entry.order.now
+        listed.entry.blocks.now (counting keys.old places.old maxima.old entry_counts.old minimums.old
         steps.old) (room_of lent) result (counting keys.new places.new maxima.new entry_counts.new minimums.new
         steps.new) }
-    ensures store { store.new ≡ measured_store dimension strategy (lent_documents documents.entry) order.now
-        blocks.now (counting keys.old places.old maxima.old entry_counts.old minimums.old
+    ensures store { store.new ≡ measured_store dimension strategy (lent_documents documents.entry) listed.entry.order.now
+        listed.entry.blocks.now (counting keys.old places.old maxima.old entry_counts.old minimums.old
         steps.old) store.old }
 {
+    let offsets = listed.blocks.len();
     judge_work(
         dimension,
-        blocks.len(),
+        offsets,
         keys.len(),
         places.len(),
         maxima.len(),
@@ -118,8 +119,7 @@ pub fn measure(
         dimension,
         strategy,
         documents,
-        order,
-        blocks,
+        listed,
         keys,
         places,
         maxima,
@@ -131,5 +131,5 @@ pub fn measure(
     if !full {
         return Err(Refusal::EmptySummary);
     }
-    judge_room(order.len(), blocks.len(), &entry_counts[..n], lent)
+    judge_room(listed.order.len(), offsets, &entry_counts[..n], lent)
 }

@@ -14,6 +14,7 @@ ghost use Rattle.explain.specs.Reasons.{holds, turn_of, reached_fate, searched, 
 use documents::Terms;
 use number_types::BlockNumber;
 use packing::PackedPosting;
+use search_held::Turns;
 use search_probe::Answer;
 
 // A block's turn: whether k were kept, the block's score, the bar that it had to reach, which is the factor times the worst kept score,
@@ -89,9 +90,7 @@ pub fn see_turn(
     factor: f32,
     terms: Terms<'_>,
     postings: &[u64],
-    block_offsets: &[u64],
-    block_scores: &[f32],
-    block_order: &[u64],
+    course: Turns<'_>,
     length: &mut u64,
     packed: &mut [u64],
     scores: &mut [f32],
@@ -99,26 +98,22 @@ pub fn see_turn(
 ) -> Option<Turn>
     ensures { seen result (lends (lent length.new packed.new scores.new) visits.new)
         ≡ turn_seen k factor (lent_terms query.entry terms.entry) postings.now
-        block_offsets.now block_scores.now block_order.now at
+        course.entry.block_offsets.now course.entry.block_scores.now course.entry.block_order.now at
         (lends (lent length.old packed.old scores.old) visits.old) }
 {
     let answer = search_probe::probe(
-        query,
-        k,
-        factor,
-        terms,
-        postings,
-        block_offsets,
-        block_scores,
-        block_order,
-        at,
-        length,
-        packed,
-        scores,
-        visits,
+        query, k, factor, terms, postings, course, at, length, packed, scores, visits,
     );
     let held = *length;
-    let then = turn_at(at, k, factor, block_scores, block_order, held, scores);
+    let then = turn_at(
+        at,
+        k,
+        factor,
+        course.block_scores,
+        course.block_order,
+        held,
+        scores,
+    );
     seen_by(answer, then)
 }
 
@@ -207,9 +202,11 @@ fn probe_to(
         factor,
         terms,
         postings,
-        &part,
-        &dot,
-        &postings[..0],
+        Turns {
+            block_offsets: &part,
+            block_scores: &dot,
+            block_order: &postings[..0],
+        },
         1,
         length,
         packed,
@@ -277,42 +274,34 @@ pub fn fate_of(
     factor: f32,
     terms: Terms<'_>,
     postings: &[u64],
-    block_offsets: &[u64],
-    block_scores: &[f32],
-    block_order: &[u64],
+    course: Turns<'_>,
     length: &mut u64,
     packed: &mut [u64],
     scores: &mut [f32],
     visits: &mut [u8],
 ) -> Fate
     ensures { fated result (lends (lent length.new packed.new scores.new) visits.new)
-        ≡ fate_of k factor (lent_terms query.entry terms.entry) postings.now block_offsets.now
-        block_scores.now block_order.now turns position
+        ≡ fate_of k factor (lent_terms query.entry terms.entry) postings.now course.entry.block_offsets.now
+        course.entry.block_scores.now course.entry.block_order.now turns position
         (lends (lent length.old packed.old scores.old) visits.old) }
 {
-    let at = turn_of(position, block_offsets, postings.len(), block_order, turns);
+    let at = turn_of(
+        position,
+        course.block_offsets,
+        postings.len(),
+        course.block_order,
+        turns,
+    );
     if at == turns {
         return Fate::InNoBlock;
     }
     let turn = see_turn(
-        at,
-        query,
-        k,
-        factor,
-        terms,
-        postings,
-        block_offsets,
-        block_scores,
-        block_order,
-        length,
-        packed,
-        scores,
-        visits,
+        at, query, k, factor, terms, postings, course, length, packed, scores, visits,
     );
     if !is_searched(turn) {
         return turn_fate(turn);
     }
-    let block = probed_block(block_offsets, turn);
+    let block = probed_block(course.block_offsets, turn);
     probe_to(
         block.first,
         position,

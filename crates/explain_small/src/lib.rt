@@ -8,6 +8,7 @@ ghost use Rattle.explain_small.specs.Short.{turn_short, fate_short};
 
 use documents::Terms;
 use explain::{Fate, Turn};
+use search_held::Turns;
 
 // The turn with this number, counted from 0: explain::see_turn from the search's beginning, with nothing kept and nothing visited.
 pub fn see_turn(
@@ -17,12 +18,10 @@ pub fn see_turn(
     factor: f32,
     terms: Terms<'_>,
     postings: &[u64],
-    block_offsets: &[u64],
-    block_scores: &[f32],
-    block_order: &[u64],
+    course: Turns<'_>,
 ) -> Option<Turn>
     ensures { result ≡ turn_short k factor (lent_terms query.entry terms.entry) postings.now
-        block_offsets.now block_scores.now block_order.now at }
+        course.entry.block_offsets.now course.entry.block_scores.now course.entry.block_order.now at }
 {
     let mut length = 0u64;
     let mut packed = [0u64; 16];
@@ -35,9 +34,7 @@ pub fn see_turn(
         factor,
         terms,
         postings,
-        block_offsets,
-        block_scores,
-        block_order,
+        course,
         &mut length,
         &mut packed,
         &mut scores,
@@ -54,12 +51,10 @@ pub fn fate_of(
     factor: f32,
     terms: Terms<'_>,
     postings: &[u64],
-    block_offsets: &[u64],
-    block_scores: &[f32],
-    block_order: &[u64],
+    course: Turns<'_>,
 ) -> Fate
     ensures { result ≡ fate_short k factor (lent_terms query.entry terms.entry) postings.now
-        block_offsets.now block_scores.now block_order.now turns position }
+        course.entry.block_offsets.now course.entry.block_scores.now course.entry.block_order.now turns position }
 {
     let mut length = 0u64;
     let mut packed = [0u64; 16];
@@ -73,9 +68,7 @@ pub fn fate_of(
         factor,
         terms,
         postings,
-        block_offsets,
-        block_scores,
-        block_order,
+        course,
         &mut length,
         &mut packed,
         &mut scores,

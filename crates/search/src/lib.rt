@@ -21,6 +21,7 @@ ghost use Rattle.search.specs.Numbers.{numbers_left};
 use documents::Terms;
 use order::order_by_score;
 use refusal::Refusal;
+use search_held::Turns;
 use search_probe::Answer;
 use sparse_scores::summaries::Summaries;
 
@@ -154,9 +155,11 @@ pub fn search(
         factor,
         terms,
         postings,
-        block_offsets,
-        &block_scores[..n],
-        &postings[..0],
+        Turns {
+            block_offsets,
+            block_scores: &block_scores[..n],
+            block_order: &postings[..0],
+        },
         n as u64,
         length,
         packed,
@@ -233,9 +236,11 @@ pub fn sort_and_search(
         factor,
         terms,
         postings,
-        block_offsets,
-        &block_scores[..n],
-        &block_order[..n],
+        Turns {
+            block_offsets,
+            block_scores: &block_scores[..n],
+            block_order: &block_order[..n],
+        },
         n as u64,
         length,
         packed,

@@ -9,7 +9,7 @@ ghost use Rattle.search_postings.specs.Lent.{through_lent};
 ghost use Rattle.search_blocks.specs.Turns.{worst_held, listed, held_turn, held_sweep};
 
 use documents::Terms;
-use search_held::Block;
+use search_held::{Block, Turns};
 use search_page::Laid;
 use search_postings::{Counts, Stop};
 
@@ -55,9 +55,7 @@ pub fn sweep(
     k: u64,
     factor: f32,
     postings: &[u64],
-    block_offsets: &[u64],
-    block_scores: &[f32],
-    block_order: &[u64],
+    course: Turns<'_>,
     turns: u64,
     length: &mut u64,
     packed: &mut [u64],
@@ -66,7 +64,7 @@ pub fn sweep(
 ) -> Result<Counts, Stop>
     ensures { turned result (lends (lent length.new packed.new scores.new) visits.new)
         ≡ held_sweep k factor (through_lent laid.entry.table.now laid.entry.sieve.now laid.entry.query terms.entry)
-        postings.now block_offsets.now block_scores.now (listed block_order.now turns) (counted 0 0)
+        postings.now course.entry.block_offsets.now course.entry.block_scores.now (listed course.entry.block_order.now turns) (counted 0 0)
         (lends (lent length.old packed.old scores.old) visits.old) }
 {
     let mut c = Counts {
@@ -75,7 +73,7 @@ pub fn sweep(
     };
     let mut worst = search_held::worst_kept(*length, scores);
     for i in 0..turns {
-        let b = search_held::block_at(block_offsets, block_scores, block_order, i);
+        let b = search_held::block_at(course, i);
         c = take_turn(
             laid, terms, k, factor, worst, postings, b, length, packed, scores, visits, c,
         )?;

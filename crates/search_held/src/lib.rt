@@ -12,6 +12,15 @@ use kept_list::Scored;
 use number_types::{BlockNumber, RangeStart};
 use packing::PackedPosting;
 
+// The blocks of a list and their turns as they are lent: where each block starts and the last one ends, their scores, and the numbers
+// of the blocks in the order of their turns.
+#[derive(Clone, Copy)]
+pub struct Turns<'a> {
+    pub block_offsets: &'a [u64],
+    pub block_scores: &'a [f32],
+    pub block_order: &'a [u64],
+}
+
 // A block at its turn: its score, and where its postings start and end.
 #[derive(Drop)]
 pub struct Block {
@@ -64,18 +73,13 @@ pub fn number_at(block_order: &[u64], turn: u64) -> BlockNumber
 }
 
 // What a turn needs to know of the block whose turn it is.
-pub fn block_at(
-    block_offsets: &[u64],
-    block_scores: &[f32],
-    block_order: &[u64],
-    turn: u64,
-) -> Block
-    ensures { result ≡ block_at block_offsets.now block_scores.now (get_or block_order.now turn turn) }
+pub fn block_at(course: Turns<'_>, turn: u64) -> Block
+    ensures { result ≡ block_at course.entry.block_offsets.now course.entry.block_scores.now (get_or course.entry.block_order.now turn turn) }
 {
-    let block = number_at(block_order, turn);
-    let score = dot_at(block_scores, block);
-    let start = start_at(block_offsets, block);
-    let end = end_at(block_offsets, block);
+    let block = number_at(course.block_order, turn);
+    let score = dot_at(course.block_scores, block);
+    let start = start_at(course.block_offsets, block);
+    let end = end_at(course.block_offsets, block);
     Block {
         score: score,
         start: start,

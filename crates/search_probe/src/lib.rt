@@ -10,6 +10,7 @@ ghost use Rattle.search_probe.specs.Lent.{lent_terms};
 
 use documents::Terms;
 use refusal::Refusal;
+use search_held::Turns;
 use search_page::Laid;
 use search_postings::{Counts, Stop};
 
@@ -85,9 +86,7 @@ pub fn probe(
     factor: f32,
     terms: Terms<'_>,
     postings: &[u64],
-    block_offsets: &[u64],
-    block_scores: &[f32],
-    block_order: &[u64],
+    course: Turns<'_>,
     turns: u64,
     length: &mut u64,
     packed: &mut [u64],
@@ -96,8 +95,8 @@ pub fn probe(
 ) -> Answer
     ensures { left result (lends (lent length.new packed.new scores.new) visits.new)
         ≡ probed k factor (lent_terms query.entry terms.entry)
-        postings.now block_offsets.now block_scores.now (listed block_order.now turns) (lends (lent length.old packed.old
-        scores.old) visits.old) }
+        postings.now course.entry.block_offsets.now course.entry.block_scores.now (listed course.entry.block_order.now turns) (lends (lent
+        length.old packed.old scores.old) visits.old) }
 {
     let n = *length;
     let verdict = admit(query, terms, k, n, packed, scores, visits);
@@ -118,9 +117,7 @@ pub fn probe(
         k,
         factor,
         postings,
-        block_offsets,
-        block_scores,
-        block_order,
+        course,
         turns,
         length,
         packed,

@@ -7,6 +7,7 @@ use configuration::{BlockingStrategy, SummarizationStrategy};
 use documents::Terms;
 use explain::{Fate, Turn};
 use packing::PackedPosting;
+use search_held::Turns;
 use search_probe::Answer;
 use sparse_scores::summaries::Summaries;
 use std::io;
@@ -219,6 +220,11 @@ fn tell_course(
         values: query_values,
     };
     let terms = Terms { components, values };
+    let course = Turns {
+        block_offsets,
+        block_scores,
+        block_order,
+    };
     for t in 0..turns {
         let seen = explain_small::see_turn(
             t,
@@ -227,9 +233,7 @@ fn tell_course(
             question.factor,
             terms,
             postings,
-            block_offsets,
-            block_scores,
-            block_order,
+            course,
         );
         say_turn(rt, t, seen)?;
     }
@@ -246,9 +250,7 @@ fn tell_course(
                 question.factor,
                 terms,
                 postings,
-                block_offsets,
-                block_scores,
-                block_order,
+                course,
             );
             let page = page_at(question, i);
             if say_left(rt, page, pages::score(page, question.bay), fate, worst)? {

@@ -21,7 +21,7 @@ returns c =
     let a = c.args in
     let t = c.count_blocks-full in let w = c.clear_work in
     let n = limit_of a.dimension (length a.keys.now) (length a.places.now) (length a.maxima.now) in
-    let all = tops n a.strategy (lent a.documents) a.order.now a.blocks.now in record {
+    let all = tops n a.strategy (lent a.documents) a.listed.order.now a.listed.blocks.now in record {
       answer = t.ensures.answer;
       left = left-all all a.keys.now a.places.now a.maxima.now a.entry_counts.now a.minimums.now a.steps.now
           t.new.keys w.new.keys t.new.places w.new.places t.new.maxima w.new.maxima

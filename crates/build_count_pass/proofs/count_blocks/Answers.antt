@@ -18,10 +18,10 @@ loop-b-init c = (refl, refl, refl, refl, refl, refl, (refl, refl), refl, refl)
 pub returns-in-None : goal.returns-in-None
 returns-in-None c =
     let l = c.loop-b in let a = c.args in
-    let taken : l.b + 1 < length a.blocks.now = omega arith in
+    let taken : l.b + 1 < length a.listed.blocks.now = omega arith in
     let d = lent a.documents in
     let n = limit_of a.dimension (length a.keys.now) (length a.places.now) (length a.maxima.now) in
-    let e = tops_next a.blocks.now a.order.now l.b n a.strategy d taken _ (limit-same a.dimension (length a.keys.now) (length a.places.now) (length a.maxima.now) (length l.keys) (length l.places) (length l.maxima) l.invariant.0 l.invariant.1 l.invariant.2) in
+    let e = tops_next a.listed.blocks.now a.listed.order.now l.b n a.strategy d taken _ (limit-same a.dimension (length a.keys.now) (length a.places.now) (length a.maxima.now) (length l.keys) (length l.places) (length l.maxima) l.invariant.0 l.invariant.1 l.invariant.2) in
     let t = c.count_block-next in
     let r = rest-stop l.b _ _ _ (noted l.entry_counts l.minimums l.steps) _ _ e l.invariant.6 _ _ t.ensures.turn (ap (λ x. not (is_some x)) c.in-None.is) in
     record {
@@ -33,10 +33,10 @@ returns-in-None c =
 pub loop-b-preserved : goal.loop-b-preserved
 loop-b-preserved c =
     let l = c.loop-b in let a = c.args in
-    let taken : l.b + 1 < length a.blocks.now = omega arith in
+    let taken : l.b + 1 < length a.listed.blocks.now = omega arith in
     let d = lent a.documents in
     let n = limit_of a.dimension (length a.keys.now) (length a.places.now) (length a.maxima.now) in
-    let e = tops_next a.blocks.now a.order.now l.b n a.strategy d taken _ (limit-same a.dimension (length a.keys.now) (length a.places.now) (length a.maxima.now) (length l.keys) (length l.places) (length l.maxima) l.invariant.0 l.invariant.1 l.invariant.2) in
+    let e = tops_next a.listed.blocks.now a.listed.order.now l.b n a.strategy d taken _ (limit-same a.dimension (length a.keys.now) (length a.places.now) (length a.maxima.now) (length l.keys) (length l.places) (length l.maxima) l.invariant.0 l.invariant.1 l.invariant.2) in
     let t = c.count_block-next in let kept = t.auto in (
       kept.keys ∙ l.invariant.0,
       kept.places ∙ l.invariant.1,
@@ -46,7 +46,7 @@ loop-b-preserved c =
       kept.steps ∙ l.invariant.5,
       rest-on l.b _ _ _ (noted l.entry_counts l.minimums l.steps) _ _ e l.invariant.6 _ _ t.ensures.turn (ap (λ x. not (is_some x)) c.in-Some.is),
       kept.store ∙ l.invariant.7,
-      ap (λ z. stored_from z (tops n a.strategy d a.order.now (drop (l.b + 1) a.blocks.now)) t.new.store) (sym (ap (λ x. unwrap_or x l.at) c.in-Some.is))
+      ap (λ z. stored_from z (tops n a.strategy d a.listed.order.now (drop (l.b + 1) a.listed.blocks.now)) t.new.store) (sym (ap (λ x. unwrap_or x l.at) c.in-Some.is))
           ∙ store-on l.at _ _ _ l.store _ e l.invariant.8 _ _ t.ensures.store _ t.ensures.turn.0 (ap (λ x. not (is_some x)) c.in-Some.is),
     )
 
@@ -55,7 +55,7 @@ returns c =
     let l = c.loop-b in let a = c.args in
     let d = lent a.documents in
     let n = limit_of a.dimension (length a.keys.now) (length a.places.now) (length a.maxima.now) in
-    let e = tops-none a.blocks.now a.order.now l.b n a.strategy d (omega arith) in
+    let e = tops-none a.listed.blocks.now a.listed.order.now l.b n a.strategy d (omega arith) in
     let r = rest_end l.b _ (noted l.entry_counts l.minimums l.steps) _ _ e l.invariant.6 in
     record {
       answer = r.0;

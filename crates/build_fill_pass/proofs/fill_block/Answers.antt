@@ -16,14 +16,14 @@ pub slice_bounds-place-end : goal.slice_bounds-place-end
 slice_bounds-place-end c =
     let a = c.args in
     let d = lent_documents a.documents in
-    let ts = below (limit_of a.dimension (length a.keys.now) (length a.places.now) (length a.maxima.now)) (block_terms d (block_at a.blocks.now a.order.now a.number.0)) in
+    let ts = below (limit_of a.dimension (length a.keys.now) (length a.places.now) (length a.maxima.now)) (block_terms d (block_at a.listed.blocks.now a.listed.order.now a.number.0)) in
     front_fits a.strategy ts a.keys.now a.places.now a.maxima.now _ _ _ _ c.summarize_block-kept.ensures
 
 pub slice_bounds-place-end-2 : goal.slice_bounds-place-end-2
 slice_bounds-place-end-2 c =
     let a = c.args in
     let d = lent_documents a.documents in
-    let ts = below (limit_of a.dimension (length a.keys.now) (length a.places.now) (length a.maxima.now)) (block_terms d (block_at a.blocks.now a.order.now a.number.0)) in
+    let ts = below (limit_of a.dimension (length a.keys.now) (length a.places.now) (length a.maxima.now)) (block_terms d (block_at a.listed.blocks.now a.listed.order.now a.number.0)) in
     sym (length-take-le _ _ (front_fits a.strategy ts a.keys.now a.places.now a.maxima.now _ _ _ _ c.summarize_block-kept.ensures))
 
 pub returns : goal.returns
@@ -31,7 +31,7 @@ returns c =
     let a = c.args in
     let d = lent_documents a.documents in
     let n = limit_of a.dimension (length a.keys.now) (length a.places.now) (length a.maxima.now) in
-    let block = block_at a.blocks.now a.order.now a.number.0 in
+    let block = block_at a.listed.blocks.now a.listed.order.now a.number.0 in
     let S = c.summarize_block-kept.ensures in
     entries-of-keys a.number.0 (summary_of a.strategy (below n (block_terms d block))) (lent a.cursors.now a.summary_ids.now a.codes.now)
     (top-held a.strategy n d block c.args.documents.narrow c.args.documents.fit)

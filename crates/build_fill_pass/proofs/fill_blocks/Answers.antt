@@ -17,10 +17,10 @@ loop-b-init c = (refl, refl, refl, refl, refl, refl, refl)
 pub loop-b-preserved : goal.loop-b-preserved
 loop-b-preserved c =
     let l = c.loop-b in let a = c.args in
-    let taken : l.b + 1 < length a.blocks.now = omega arith in
+    let taken : l.b + 1 < length a.listed.blocks.now = omega arith in
     let d = lent_documents a.documents in
     let n = limit_of a.dimension (length a.keys.now) (length a.places.now) (length a.maxima.now) in
-    let e = tops_next a.blocks.now a.order.now l.b n a.strategy d taken _ (limit-same a.dimension (length a.keys.now) (length a.places.now) (length a.maxima.now) (length l.keys) (length l.places) (length l.maxima) l.invariant.0 l.invariant.1 l.invariant.2) in
+    let e = tops_next a.listed.blocks.now a.listed.order.now l.b n a.strategy d taken _ (limit-same a.dimension (length a.keys.now) (length a.places.now) (length a.maxima.now) (length l.keys) (length l.places) (length l.maxima) l.invariant.0 l.invariant.1 l.invariant.2) in
     let t = c.fill_next-at in let kept = t.auto in (
       kept.keys ∙ l.invariant.0,
       kept.places ∙ l.invariant.1,
@@ -36,4 +36,4 @@ returns c =
     let l = c.loop-b in let a = c.args in
     let d = lent_documents a.documents in
     let n = limit_of a.dimension (length a.keys.now) (length a.places.now) (length a.maxima.now) in
-    rest_end l.b _ _ (lent l.cursors l.summary_ids l.codes) _ (recalled-none (drop l.at a.store.now) _ (tops-none a.blocks.now a.order.now l.b n a.strategy d (omega arith))) l.invariant.6
+    rest_end l.b _ _ (lent l.cursors l.summary_ids l.codes) _ (recalled-none (drop l.at a.store.now) _ (tops-none a.listed.blocks.now a.listed.order.now l.b n a.strategy d (omega arith))) l.invariant.6

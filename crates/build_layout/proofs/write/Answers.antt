@@ -62,7 +62,7 @@ pub returns : goal.returns
 unfolding output_lengths
 returns c =
     let a = c.args in record {
-      left = wrote a.dimension a.strategy (lent a.documents) a.order.now a.blocks.now a.keys.now a.places.now
+      left = wrote a.dimension a.strategy (lent a.documents) a.listed.order.now a.listed.blocks.now a.keys.now a.places.now
           a.maxima.now a.entry_counts.now (outputs a.postings.now a.block_offsets.now a.summary_components.now a.component_offsets.now a.summary_ids.now
           a.codes.now a.minimums.now a.steps.now)
           c.measure-answer.new.keys c.measure-answer.new.places c.measure-answer.new.maxima

@@ -8,6 +8,6 @@ use Rattle.explain.proofs.see_turn.Goals as goal
 pub returns : goal.returns
 returns c =
     let a = c.args in
-    turn-seen a.k a.factor (lent_terms a.query a.terms) a.postings.now a.block_offsets.now
-    a.block_scores.now a.block_order.now a.at (lends (lent a.length.now a.packed.now a.scores.now) a.visits.now) _ _ _ c.probe-answer.ensures
+    turn-seen a.k a.factor (lent_terms a.query a.terms) a.postings.now a.course.block_offsets.now
+    a.course.block_scores.now a.course.block_order.now a.at (lends (lent a.length.now a.packed.now a.scores.now) a.visits.now) _ _ _ c.probe-answer.ensures
     c.turn_at-then.ensures c.seen_by.ensures

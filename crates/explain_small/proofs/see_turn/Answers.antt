@@ -6,5 +6,5 @@ use Rattle.explain_small.proofs.see_turn.Goals as goal
 pub returns : goal.returns
 returns c =
     let a = c.args in
-    turn-short a.k a.factor (lent_terms a.query a.terms) a.postings.now a.block_offsets.now a.block_scores.now a.block_order.now
+    turn-short a.k a.factor (lent_terms a.query a.terms) a.postings.now a.course.block_offsets.now a.course.block_scores.now a.course.block_order.now
     a.at _ _ c.see_turn.ensures

@@ -17,8 +17,8 @@ loop-i-init c = (
   refl,
   refl,
   let a = c.args in ap (λ bs. held_sweep a.k a.factor
-      (through_lent a.laid.table.now a.laid.sieve.now a.laid.query a.terms) a.postings.now a.block_offsets.now a.block_scores.now
-      bs (counted 0 0) (lends (lent a.length.now a.packed.now a.scores.now) a.visits.now)) (listed-all a.block_order.now a.turns),
+      (through_lent a.laid.table.now a.laid.sieve.now a.laid.query a.terms) a.postings.now a.course.block_offsets.now a.course.block_scores.now
+      bs (counted 0 0) (lends (lent a.length.now a.packed.now a.scores.now) a.visits.now)) (listed-all a.course.block_order.now a.turns),
   c.worst_kept-worst.ensures,
 )
 
@@ -30,7 +30,7 @@ returns-in_err-c c =
     let l = c.loop-i in
     let a = c.args in
     sweep-stop a.k a.factor (through_lent a.laid.table.now a.laid.sieve.now a.laid.query a.terms) a.postings.now
-    a.block_offsets.now a.block_scores.now (get_or a.block_order.now l.i l.i) _ _ (listed_next a.block_order.now l.i a.turns (omega arith)) l.c
+    a.course.block_offsets.now a.course.block_scores.now (get_or a.course.block_order.now l.i l.i) _ _ (listed_next a.course.block_order.now l.i a.turns (omega arith)) l.c
     (lends (lent l.length l.packed l.scores) l.visits) c.block_at-b.result c.block_at-b.ensures c.take_turn.result _ _
     c.in_err-c.was c.take_turn.ensures c.from_residual.result
     (handed-up c.from_residual.result _ c.from_residual.ensures.1) ∙ l.invariant.3
@@ -43,7 +43,7 @@ loop-i-preserved c =
       search rules,
       search rules,
       sweep-on a.k a.factor (through_lent a.laid.table.now a.laid.sieve.now a.laid.query a.terms) a.postings.now
-          a.block_offsets.now a.block_scores.now (get_or a.block_order.now l.i l.i) _ _ (listed_next a.block_order.now l.i a.turns (omega arith)) l.c
+          a.course.block_offsets.now a.course.block_scores.now (get_or a.course.block_order.now l.i l.i) _ _ (listed_next a.course.block_order.now l.i a.turns (omega arith)) l.c
           (lends (lent l.length l.packed l.scores) l.visits) c.block_at-b.result c.block_at-b.ensures c.take_turn.result _ _
           c.in_ok-c.was c.take_turn.ensures ∙ l.invariant.3,
       c.worst_kept-worst-in-loop-i.ensures,
@@ -54,5 +54,5 @@ returns c =
     let l = c.loop-i in
     let a = c.args in
     sweep-end a.k a.factor (through_lent a.laid.table.now a.laid.sieve.now a.laid.query a.terms) a.postings.now
-    a.block_offsets.now a.block_scores.now _ l.c (lends (lent l.length l.packed l.scores) l.visits)
-    (listed-none a.block_order.now l.i a.turns (omega arith)) ∙ l.invariant.3
+    a.course.block_offsets.now a.course.block_scores.now _ l.c (lends (lent l.length l.packed l.scores) l.visits)
+    (listed-none a.course.block_order.now l.i a.turns (omega arith)) ∙ l.invariant.3

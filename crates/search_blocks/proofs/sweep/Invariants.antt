@@ -11,6 +11,6 @@ use Rattle.search_blocks.proofs.sweep.Given as goal
 abbrev pub invariant-loop-i : goal.invariant-loop-i
 invariant-loop-i l =
     (len l.packed ≡ len l.initial.packed) × (len l.scores ≡ len l.initial.scores) × (len l.visits ≡ len l.initial.visits)
-    × (held_sweep l.k l.factor (through_lent l.laid.table.now l.laid.sieve.now l.laid.query l.terms) l.postings l.block_offsets l.block_scores (listed_from l.block_order l.i l.turns) l.c (lends (lent l.length l.packed l.scores) l.visits)
-    ≡ held_sweep l.k l.factor (through_lent l.laid.table.now l.laid.sieve.now l.laid.query l.terms) l.postings l.block_offsets l.block_scores (listed l.block_order l.turns) (counted 0 0) (lends (lent l.initial.length l.initial.packed l.initial.scores) l.initial.visits))
+    × (held_sweep l.k l.factor (through_lent l.laid.table.now l.laid.sieve.now l.laid.query l.terms) l.postings l.course.block_offsets.now l.course.block_scores.now (listed_from l.course.block_order.now l.i l.turns) l.c (lends (lent l.length l.packed l.scores) l.visits)
+    ≡ held_sweep l.k l.factor (through_lent l.laid.table.now l.laid.sieve.now l.laid.query l.terms) l.postings l.course.block_offsets.now l.course.block_scores.now (listed l.course.block_order.now l.turns) (counted 0 0) (lends (lent l.initial.length l.initial.packed l.initial.scores) l.initial.visits))
     × (l.worst ≡ worst_held l.length l.scores)

@@ -12,7 +12,7 @@ returns-in-Err c =
     let a = c.args in
     refused-is a.k (lent_terms a.query a.terms)
     (lends (lent a.length.now a.packed.now a.scores.now) a.visits.now) c.admit-verdict.result c.admit-verdict.ensures a.factor a.postings.now
-    a.block_offsets.now a.block_scores.now (listed a.block_order.now a.turns) _ c.in-Err.is
+    a.course.block_offsets.now a.course.block_scores.now (listed a.course.block_order.now a.turns) _ c.in-Err.is
 
 pub slice_bounds-sweep-end : goal.slice_bounds-sweep-end
 slice_bounds-sweep-end c =
@@ -32,6 +32,6 @@ returns c =
     let a = c.args in
     accepted-is a.k (lent_terms a.query a.terms)
     (lends (lent a.length.now a.packed.now a.scores.now) a.visits.now) c.admit-verdict.result c.admit-verdict.ensures c.in_default.is
-    _ (laid_out _ a.query.components.now a.query.values.now c.lay.ensures) _ c.sieve_of-sieve.ensures a.factor a.postings.now a.block_offsets.now a.block_scores.now
-    a.block_order.now a.turns (omega (arith, c.well_formed.1.1.1.1.1.1.1.1.1.1.1.1.0)) (omega (arith, c.ranges.turns)) _ _ _ c.sweep-t.ensures
+    _ (laid_out _ a.query.components.now a.query.values.now c.lay.ensures) _ c.sieve_of-sieve.ensures a.factor a.postings.now a.course.block_offsets.now a.course.block_scores.now
+    a.course.block_order.now a.turns (omega (arith, c.well_formed.1.1.1.1.1.1.1.1.1.1.0)) (omega (arith, c.ranges.turns)) _ _ _ c.sweep-t.ensures
     c.finish.ensures
