@@ -5,17 +5,19 @@
 ghost use Rattle.std.specs.Prelude.{◌≡◌, ◌&&◌, ◌||◌, ◌++◌, ◌-◌, ltb, eqb};
 ghost use Rattle.refusal.specs.First.{first_of};
 ghost use Rattle.blocking.specs.Limits.{list_limit, dimension_limit};
-ghost use Rattle.documents.specs.Documents.{documents, count};
+ghost use Rattle.documents.specs.Documents.{count};
 ghost use Rattle.documents.specs.Checks.{offsets_hold, ids_hold, documents_hold};
+ghost use Rattle.documents.specs.Lent.{lent};
 ghost use Rattle.build_admission.specs.Admission.{wrong_centroids, blocking_faults, input_tests};
 ghost use Rattle.build_admission.specs.Answers.{ranges_fit, taken_of};
 
 use configuration::BlockingStrategy;
+use documents::Documents;
 use number_types::DocumentId;
 use packing::PackedPosting;
 use refusal::Refusal;
 
-// Whether the start of each listed range is below its limit, and whether no length is above its own.
+// Whether the start of each listed range is below its limit, and whether no length is above its own: two facts, neither a flag for the other.
 #[derive(Drop)]
 pub struct RangesFit {
     pub starts: bool,
@@ -48,20 +50,14 @@ pub fn centroids_taken(blocking: BlockingStrategy, centroids: usize) -> usize
 
 // Whether the documents are well laid out and each listed document and centroid is one of them. One pass over the offsets, the ids
 // and the centroids.
-fn documents_known(
-    offsets: &[u64],
-    components: &[u32],
-    values: &[f32],
-    ids: &[u64],
-    centroids: &[u64],
-) -> bool
-    ensures { result ≡ (offsets_hold (documents offsets.now components.now values.now) && ids_hold (count offsets.now) (ids.now
+fn documents_known(documents: Documents<'_>, ids: &[u64], centroids: &[u64]) -> bool
+    ensures { result ≡ (offsets_hold (lent documents.entry) && ids_hold (count documents.entry.offsets.now) (ids.now
         ++ centroids.now)) }
 {
-    if !document_checks::offsets_hold(offsets, components, values) {
+    if !document_checks::offsets_hold(documents) {
         return false;
     }
-    let count = offsets.len().saturating_sub(1) as u64;
+    let count = documents.offsets.len().saturating_sub(1) as u64;
     if !document_checks::ids_hold(count, ids) {
         return false;
     }
@@ -69,20 +65,13 @@ fn documents_known(
 }
 
 // Whether the terms of each listed document and centroid hold. One pass over their terms.
-fn terms_hold(
-    dimension: u64,
-    offsets: &[u64],
-    components: &[u32],
-    values: &[f32],
-    ids: &[u64],
-    centroids: &[u64],
-) -> bool
-    ensures { result ≡ documents_hold dimension (documents offsets.now components.now values.now) (ids.now ++ centroids.now) }
+fn terms_hold(dimension: u64, documents: Documents<'_>, ids: &[u64], centroids: &[u64]) -> bool
+    ensures { result ≡ documents_hold dimension (lent documents.entry) (ids.now ++ centroids.now) }
 {
-    if !document_checks::documents_hold(dimension, offsets, components, values, ids) {
+    if !document_checks::documents_hold(dimension, documents, ids) {
         return false;
     }
-    document_checks::documents_hold(dimension, offsets, components, values, centroids)
+    document_checks::documents_hold(dimension, documents, centroids)
 }
 
 // Whether the ranges of the listed documents can be packed. One pass over the ids, which leaves at none of them.
@@ -153,26 +142,24 @@ fn blocking_verdict(blocking: BlockingStrategy, ids: u64, listed: u64) -> Result
 pub fn admitted(
     dimension: u64,
     blocking: BlockingStrategy,
-    offsets: &[u64],
-    components: &[u32],
-    values: &[f32],
+    documents: Documents<'_>,
     ids: &[u64],
     centroids: &[u64],
 ) -> Result<(), Refusal>
-    ensures { result ≡ first_of (input_tests dimension blocking (documents offsets.now components.now values.now) ids.now centroids.now) }
+    ensures { result ≡ first_of (input_tests dimension blocking (lent documents.entry) ids.now centroids.now) }
 {
     if outside_limits(dimension, ids.len() as u64) {
         return Err(Refusal::OutsideLimits);
     }
     let taken = centroids_taken(blocking, centroids.len());
     let used = &centroids[..taken];
-    if !documents_known(offsets, components, values, ids, used) {
+    if !documents_known(documents, ids, used) {
         return Err(Refusal::WrongDocuments);
     }
-    if !terms_hold(dimension, offsets, components, values, ids, used) {
+    if !terms_hold(dimension, documents, ids, used) {
         return Err(Refusal::WrongTerms);
     }
-    let fit = ranges_fit(offsets, ids);
+    let fit = ranges_fit(documents.offsets, ids);
     if !fit.starts {
         return Err(Refusal::StartTooLarge);
     }

@@ -2,13 +2,14 @@
 #![tactic(auto)]
 
 ghost use Rattle.std.specs.Prelude.{◌≡◌, length};
-ghost use Rattle.documents.specs.Documents.{documents};
+ghost use Rattle.documents.specs.Lent.{lent};
 ghost use Rattle.summary_maximum.specs.Maximum.{block_terms, below};
 ghost use Rattle.summary_terms.specs.Answers.{limit_of, Summarizes};
 ghost use Rattle.build_block_summary.specs.Blocks.{block_at};
 ghost use Rattle.clearing.specs.Zeros.{zeros, float_zeros};
 
 use configuration::SummarizationStrategy;
+use documents::Documents;
 use number_types::BlockNumber;
 
 // Summarizes the block with a number, as `summary_terms::summarize` does: `order` has the documents of all blocks, and `blocks` where
@@ -17,9 +18,7 @@ use number_types::BlockNumber;
 pub fn summarize_block(
     dimension: u64,
     strategy: SummarizationStrategy,
-    offsets: &[u64],
-    components: &[u32],
-    values: &[f32],
+    documents: Documents<'_>,
     order: &[u64],
     blocks: &[u64],
     number: BlockNumber,
@@ -28,7 +27,7 @@ pub fn summarize_block(
     maxima: &mut [f32],
 ) -> usize
     ensures { Summarizes strategy (below (limit_of dimension (length keys.old) (length places.old) (length maxima.old))
-        (block_terms (documents offsets.now components.now values.now) (block_at blocks.now order.now number.0)))
+        (block_terms (lent documents.entry) (block_at blocks.now order.now number.0)))
         keys.old places.old maxima.old result keys.new places.new maxima.new }
 {
     let at = documents::places_at(blocks, order.len(), number.0);
@@ -36,9 +35,7 @@ pub fn summarize_block(
     let to = at.to;
     summary_terms::summarize(
         dimension,
-        offsets,
-        components,
-        values,
+        documents,
         &order[from..to],
         strategy,
         keys,

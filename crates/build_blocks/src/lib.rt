@@ -3,7 +3,7 @@
 
 ghost use Rattle.std.specs.Prelude.{◌≡◌, ◌≤◌, length};
 ghost use Rattle.refusal.specs.First.{first_of};
-ghost use Rattle.documents.specs.Documents.{documents};
+ghost use Rattle.documents.specs.Lent.{lent};
 ghost use Rattle.blocking.specs.Blocking.{fixed_offsets};
 ghost use Rattle.cluster_meaning.specs.Clusters.{assigned_by, clusters};
 ghost use Rattle.build_meaning.specs.Built.{in_clusters, blocked_by};
@@ -13,6 +13,7 @@ ghost use Rattle.build_blocks.specs.Fits.{CutFits, GroupFits};
 ghost use Rattle.build_blocks.specs.Longest.{longest_of};
 
 use configuration::{BlockingStrategy, ClusteringAlgorithm};
+use documents::Documents;
 use number_types::DocumentId;
 use refusal::Refusal;
 
@@ -36,12 +37,12 @@ fn cut(block_size: u64, ids: &[u64], order: &mut [u64], blocks: &mut [u64]) -> u
 }
 
 // How many terms the longest of the listed documents has. One step for each id.
-fn longest(offsets: &[u64], components: &[u32], values: &[f32], ids: &[u64]) -> u64
-    ensures { result ≡ longest_of (documents offsets.now components.now values.now) ids.now }
+fn longest(documents: Documents<'_>, ids: &[u64]) -> u64
+    ensures { result ≡ longest_of (lent documents.entry) ids.now }
 {
     let mut most = 0u64;
     for id in ids {
-        let p = cluster_index::places_of(offsets, components, values, DocumentId(*id));
+        let p = cluster_index::places_of(documents, DocumentId(*id));
         most = most.max((p.to - p.from) as u64);
     }
     most
@@ -52,9 +53,7 @@ fn longest(offsets: &[u64], components: &[u32], values: &[f32], ids: &[u64]) -> 
 fn by_clusters(
     algorithm: ClusteringAlgorithm,
     minimum: u64,
-    offsets: &[u64],
-    components: &[u32],
-    values: &[f32],
+    documents: Documents<'_>,
     ids: &[u64],
     centroids: &[u64],
     order: &mut [u64],
@@ -70,26 +69,24 @@ fn by_clusters(
     keys: &mut [u64],
 ) -> u64
     requires { GroupFits (scratches order.old blocks.old sorted.old known.old taken.old counts.old
-        starts.old slots.old weights.old sums.old keys.old) (documents offsets.now components.now values.now) ids.now centroids.now }
-    ensures answer { result ≡ length (in_clusters (clusters (assigned_by algorithm (documents offsets.now components.now values.now) minimum
+        starts.old slots.old weights.old sums.old keys.old) (lent documents) ids.now centroids.now }
+    ensures answer { result ≡ length (in_clusters (clusters (assigned_by algorithm (lent documents.entry) minimum
         centroids.now ids.now))).block_offsets }
     ensures scratch { scratches order.new blocks.new sorted.new known.new taken.new counts.new
         starts.new slots.new weights.new sums.new keys.new
-        ≡ holding (in_clusters (clusters (assigned_by algorithm (documents offsets.now components.now values.now) minimum
+        ≡ holding (in_clusters (clusters (assigned_by algorithm (lent documents.entry) minimum
         centroids.now ids.now)))
         (scratches order.old blocks.old sorted.old known.old taken.old counts.old
         starts.old slots.old weights.old sums.old keys.old) }
 {
     let counted = centroids.len().min(counts.len());
     let scored = centroids.len().min(sums.len());
-    let most = longest(offsets, components, values, ids);
+    let most = longest(documents, ids);
     let keyed = (most as usize).min(keys.len());
     clustering::cluster(
         algorithm,
         minimum,
-        offsets,
-        components,
-        values,
+        documents,
         ids,
         centroids,
         order,
@@ -112,9 +109,7 @@ fn by_clusters(
 pub fn make(
     dimension: u64,
     blocking: BlockingStrategy,
-    offsets: &[u64],
-    components: &[u32],
-    values: &[f32],
+    documents: Documents<'_>,
     ids: &[u64],
     centroids: &[u64],
     order: &mut [u64],
@@ -131,16 +126,16 @@ pub fn make(
 ) -> Result<u64, Refusal>
     ensures { left result (scratches order.new blocks.new sorted.new known.new taken.new counts.new
         starts.new slots.new weights.new sums.new keys.new)
-        ≡ left_by (first_of (make_tests dimension blocking (documents offsets.now components.now values.now) ids.now centroids.now
+        ≡ left_by (first_of (make_tests dimension blocking (lent documents.entry) ids.now centroids.now
         (scratches order.old blocks.old sorted.old known.old taken.old counts.old
         starts.old slots.old weights.old sums.old keys.old)))
-        (blocked_by blocking (documents offsets.now components.now values.now) centroids.now ids.now)
+        (blocked_by blocking (lent documents.entry) centroids.now ids.now)
         (scratches order.old blocks.old sorted.old known.old taken.old counts.old
         starts.old slots.old weights.old sums.old keys.old) }
 {
     build_ready::ready(
-        dimension, blocking, offsets, components, values, ids, centroids, order, blocks, sorted,
-        known, taken, counts, starts, slots, weights, sums, keys,
+        dimension, blocking, documents, ids, centroids, order, blocks, sorted, known, taken,
+        counts, starts, slots, weights, sums, keys,
     )?;
     match blocking {
         BlockingStrategy::FixedSize { block_size } => Ok(cut(block_size, ids, order, blocks)),
@@ -151,9 +146,7 @@ pub fn make(
         } => Ok(by_clusters(
             clustering_algorithm,
             min_cluster_size,
-            offsets,
-            components,
-            values,
+            documents,
             ids,
             centroids,
             order,

@@ -2,8 +2,8 @@
 // keeps stored for the second pass, as far as they find a place.
 #![tactic(auto)]
 
-ghost use Rattle.std.specs.Prelude.{◌≡◌, length, ◌-◌};
-ghost use Rattle.documents.specs.Documents.{documents};
+ghost use Rattle.std.specs.Prelude.{is_some, unwrap_or, ◌≡◌, length, ◌-◌};
+ghost use Rattle.documents.specs.Lent.{lent};
 ghost use Rattle.summary_maximum.specs.Maximum.{block_terms, below};
 ghost use Rattle.summary_terms.specs.Summaries.{summary_of};
 ghost use Rattle.summary_terms.specs.Answers.{limit_of};
@@ -14,14 +14,8 @@ ghost use Rattle.build_count_pass.specs.Counting.{none_empty, full_first, counti
 ghost use Rattle.build_count_pass.specs.Turns.{noted, notes_keys, Turn, noted_from, Stores, stored_from};
 
 use configuration::SummarizationStrategy;
+use documents::Documents;
 use number_types::BlockNumber;
-
-// Whether a block's summary has a term, and the place of the store after its keys.
-#[derive(Drop)]
-struct Counted {
-    full: bool,
-    next: usize,
-}
 
 // Counts the terms that the keys stand for, and stores their least value and their step at the block's number.
 fn note(
@@ -60,14 +54,12 @@ fn note_and_keep(
     build_kept_keys::keep(at, keys, store)
 }
 
-// Summarizes the block with a number, notes its terms and stores its keys at a place; answers whether its summary has a term, and the
-// place after the keys. Otherwise nothing is noted or stored.
+// Summarizes the block with a number, notes its terms and stores its keys at a place; answers the place after the keys. Where its summary
+// has no term, nothing is noted or stored, and there is no answer.
 fn count_block(
     dimension: u64,
     strategy: SummarizationStrategy,
-    offsets: &[u64],
-    components: &[u32],
-    values: &[f32],
+    documents: Documents<'_>,
     order: &[u64],
     blocks: &[u64],
     number: BlockNumber,
@@ -79,25 +71,21 @@ fn count_block(
     steps: &mut [f32],
     at: usize,
     store: &mut [u64],
-) -> Counted
+) -> Option<usize>
     ensures turn { Turn number.0 (summary_of strategy (below (limit_of dimension (length keys.old) (length places.old) (length maxima.old)) (block_terms
-        (documents offsets.now components.now values.now) (block_at blocks.now order.now number.0))))
-        (noted entry_counts.old minimums.old steps.old) result.full (noted entry_counts.new minimums.new steps.new) }
+        (lent documents.entry) (block_at blocks.now order.now number.0))))
+        (noted entry_counts.old minimums.old steps.old) (is_some result) (noted entry_counts.new minimums.new steps.new) }
     ensures store { Stores (summary_of strategy (below (limit_of dimension (length keys.old) (length places.old) (length maxima.old)) (block_terms
-        (documents offsets.now components.now values.now) (block_at blocks.now order.now number.0))))
-        at store.old result.next store.new }
+        (lent documents.entry) (block_at blocks.now order.now number.0))))
+        at store.old (unwrap_or result at) store.new }
 {
     let kept = build_block_summary::summarize_block(
-        dimension, strategy, offsets, components, values, order, blocks, number, keys, places,
-        maxima,
+        dimension, strategy, documents, order, blocks, number, keys, places, maxima,
     );
     if kept == 0 {
-        return Counted {
-            full: false,
-            next: at,
-        };
+        return None;
     }
-    let next = note_and_keep(
+    Some(note_and_keep(
         &keys[..kept],
         number,
         entry_counts,
@@ -105,20 +93,14 @@ fn count_block(
         steps,
         at,
         store,
-    );
-    Counted {
-        full: true,
-        next: next,
-    }
+    ))
 }
 
 // One block after another, up to the first whose summary is empty; answers whether there is none such.
 fn count_blocks(
     dimension: u64,
     strategy: SummarizationStrategy,
-    offsets: &[u64],
-    components: &[u32],
-    values: &[f32],
+    documents: Documents<'_>,
     order: &[u64],
     blocks: &[u64],
     keys: &mut [u64],
@@ -130,23 +112,21 @@ fn count_blocks(
     store: &mut [u64],
 ) -> bool
     ensures answer { result ≡ none_empty (tops (limit_of dimension (length keys.old) (length places.old) (length maxima.old)) strategy
-        (documents offsets.now components.now values.now) order.now blocks.now) }
+        (lent documents.entry) order.now blocks.now) }
     ensures notes { noted entry_counts.new minimums.new steps.new
         ≡ noted_from 0 (tops (limit_of dimension (length keys.old) (length places.old) (length maxima.old)) strategy
-        (documents offsets.now components.now values.now) order.now blocks.now)
+        (lent documents.entry) order.now blocks.now)
         (noted entry_counts.old minimums.old steps.old) }
     ensures store { store.new
         ≡ stored_from 0 (tops (limit_of dimension (length keys.old) (length places.old) (length maxima.old)) strategy
-        (documents offsets.now components.now values.now) order.now blocks.now) store.old }
+        (lent documents.entry) order.now blocks.now) store.old }
 {
     let mut at = 0usize;
     for b in 0..blocks.len().saturating_sub(1) {
-        let counted = count_block(
+        let next = count_block(
             dimension,
             strategy,
-            offsets,
-            components,
-            values,
+            documents,
             order,
             blocks,
             BlockNumber(b as u64),
@@ -159,10 +139,14 @@ fn count_blocks(
             at,
             store,
         );
-        if !counted.full {
-            return false;
+        match next {
+            Some(place) => {
+                at = place;
+            }
+            None => {
+                return false;
+            }
         }
-        at = counted.next;
     }
     true
 }
@@ -177,9 +161,7 @@ fn count_blocks(
 pub fn count(
     dimension: u64,
     strategy: SummarizationStrategy,
-    offsets: &[u64],
-    components: &[u32],
-    values: &[f32],
+    documents: Documents<'_>,
     order: &[u64],
     blocks: &[u64],
     keys: &mut [u64],
@@ -191,23 +173,21 @@ pub fn count(
     store: &mut [u64],
 ) -> bool
     ensures answer { result ≡ none_empty (tops (limit_of dimension (length keys.old) (length places.old) (length maxima.old)) strategy
-        (documents offsets.now components.now values.now) order.now blocks.now) }
+        (lent documents.entry) order.now blocks.now) }
     ensures left { counting keys.new places.new maxima.new entry_counts.new minimums.new steps.new
         ≡ count_left (tops (limit_of dimension (length keys.old) (length places.old) (length maxima.old)) strategy
-        (documents offsets.now components.now values.now) order.now blocks.now) (counting keys.old
+        (lent documents.entry) order.now blocks.now) (counting keys.old
         places.old maxima.old entry_counts.old minimums.old steps.old) }
     ensures store { store.new
         ≡ kept_in (full_first (tops (limit_of dimension (length keys.old) (length places.old) (length maxima.old)) strategy
-        (documents offsets.now components.now values.now) order.now blocks.now)) store.old }
+        (lent documents.entry) order.now blocks.now)) store.old }
 {
     clearing::clear(entry_counts);
     clearing::clear(store);
     let full = count_blocks(
         dimension,
         strategy,
-        offsets,
-        components,
-        values,
+        documents,
         order,
         blocks,
         keys,

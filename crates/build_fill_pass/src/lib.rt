@@ -3,7 +3,7 @@
 #![tactic(auto)]
 
 ghost use Rattle.std.specs.Prelude.{◌≡◌, ◌%◌, min, length, drop};
-ghost use Rattle.documents.specs.Documents.{documents};
+ghost use Rattle.documents.specs.Lent.{lent as lent_documents};
 ghost use Rattle.summary_maximum.specs.Maximum.{block_terms, below};
 ghost use Rattle.summary_terms.specs.Summaries.{summary_of};
 ghost use Rattle.summary_terms.specs.Answers.{limit_of};
@@ -15,6 +15,7 @@ ghost use Rattle.build_fill_pass.specs.Filling.{filling, placed_in, fill_left};
 ghost use Rattle.build_fill_pass.specs.Turns.{key_entries};
 
 use configuration::SummarizationStrategy;
+use documents::Documents;
 use number_types::BlockNumber;
 
 // Places the entries of the terms that the keys stand for, in the summary of the block with a number.
@@ -38,9 +39,7 @@ fn place(
 fn fill_block(
     dimension: u64,
     strategy: SummarizationStrategy,
-    offsets: &[u64],
-    components: &[u32],
-    values: &[f32],
+    documents: Documents<'_>,
     order: &[u64],
     blocks: &[u64],
     number: BlockNumber,
@@ -55,11 +54,10 @@ fn fill_block(
         (lent cursors.old
         summary_ids.old codes.old)
         (entries_of (number.0 % 65536) (summary_of strategy (below (limit_of dimension (length keys.old) (length places.old) (length maxima.old)) (block_terms
-        (documents offsets.now components.now values.now) (block_at blocks.now order.now number.0))))) }
+        (lent_documents documents.entry) (block_at blocks.now order.now number.0))))) }
 {
     let kept = build_block_summary::summarize_block(
-        dimension, strategy, offsets, components, values, order, blocks, number, keys, places,
-        maxima,
+        dimension, strategy, documents, order, blocks, number, keys, places, maxima,
     );
     place(number, &keys[..kept], cursors, summary_ids, codes);
 }
@@ -69,9 +67,7 @@ fn fill_block(
 fn fill_next(
     dimension: u64,
     strategy: SummarizationStrategy,
-    offsets: &[u64],
-    components: &[u32],
-    values: &[f32],
+    documents: Documents<'_>,
     order: &[u64],
     blocks: &[u64],
     number: BlockNumber,
@@ -88,7 +84,7 @@ fn fill_next(
     ensures entries { lent cursors.new summary_ids.new codes.new
         ≡ placed_within (min (length summary_ids.old) (length codes.old)) (lent cursors.old summary_ids.old codes.old)
         (entries_of (number.0 % 65536) (recalled_top (drop at store.now) (summary_of strategy (below (limit_of dimension (length keys.old) (length places.old)
-        (length maxima.old)) (block_terms (documents offsets.now components.now values.now)
+        (length maxima.old)) (block_terms (lent_documents documents.entry)
         (block_at blocks.now order.now number.0)))))) }
 {
     let kept = build_kept_keys::frame_length(at, store);
@@ -96,9 +92,7 @@ fn fill_next(
         fill_block(
             dimension,
             strategy,
-            offsets,
-            components,
-            values,
+            documents,
             order,
             blocks,
             number,
@@ -121,9 +115,7 @@ fn fill_next(
 fn fill_blocks(
     dimension: u64,
     strategy: SummarizationStrategy,
-    offsets: &[u64],
-    components: &[u32],
-    values: &[f32],
+    documents: Documents<'_>,
     order: &[u64],
     blocks: &[u64],
     keys: &mut [u64],
@@ -136,7 +128,7 @@ fn fill_blocks(
 )
     ensures { lent cursors.new summary_ids.new codes.new
         ≡ placed_in (lent cursors.old summary_ids.old codes.old) (recalled store.now (tops (limit_of dimension (length keys.old)
-        (length places.old) (length maxima.old)) strategy (documents offsets.now components.now values.now)
+        (length places.old) (length maxima.old)) strategy (lent_documents documents.entry)
         order.now blocks.now)) }
 {
     let mut at = 0usize;
@@ -144,9 +136,7 @@ fn fill_blocks(
         at = fill_next(
             dimension,
             strategy,
-            offsets,
-            components,
-            values,
+            documents,
             order,
             blocks,
             BlockNumber(b as u64),
@@ -171,9 +161,7 @@ fn fill_blocks(
 pub fn fill(
     dimension: u64,
     strategy: SummarizationStrategy,
-    offsets: &[u64],
-    components: &[u32],
-    values: &[f32],
+    documents: Documents<'_>,
     order: &[u64],
     blocks: &[u64],
     keys: &mut [u64],
@@ -186,15 +174,13 @@ pub fn fill(
 )
     ensures { filling keys.new places.new maxima.new (lent cursors.new summary_ids.new codes.new)
         ≡ fill_left (recalled store.now (tops (limit_of dimension (length keys.old) (length places.old) (length maxima.old)) strategy
-        (documents offsets.now components.now values.now) order.now blocks.now)) (filling keys.old
+        (lent_documents documents.entry) order.now blocks.now)) (filling keys.old
         places.old maxima.old (lent cursors.old summary_ids.old codes.old)) }
 {
     fill_blocks(
         dimension,
         strategy,
-        offsets,
-        components,
-        values,
+        documents,
         order,
         blocks,
         keys,

@@ -3,7 +3,7 @@
 #![tactic(auto)]
 
 ghost use Rattle.std.specs.Prelude.{◌≡◌};
-ghost use Rattle.documents.specs.Documents.{documents};
+ghost use Rattle.documents.specs.Lent.{lent as lent_documents};
 ghost use Rattle.build_count_pass.specs.Counting.{counting};
 ghost use Rattle.build_meaning.specs.Building.{outputs, output_lengths, zeros};
 ghost use Rattle.build_layout.specs.Laid.{built_from, laid_verdict, left, left_by};
@@ -11,6 +11,7 @@ ghost use Rattle.build_layout.specs.Laid.{built_from, laid_verdict, left, left_b
 use build_meaning::BuiltSizes;
 use build_sizes::OutputLengths;
 use configuration::SummarizationStrategy;
+use documents::Documents;
 use refusal::Refusal;
 
 // Writes the result of a build: `order` has the list's documents in block order, and `blocks` where each block starts and where the
@@ -24,9 +25,7 @@ use refusal::Refusal;
 pub fn write(
     dimension: u64,
     strategy: SummarizationStrategy,
-    offsets: &[u64],
-    components: &[u32],
-    values: &[f32],
+    documents: Documents<'_>,
     order: &[u64],
     blocks: &[u64],
     postings: &mut [u64],
@@ -45,11 +44,11 @@ pub fn write(
 ) -> Result<BuiltSizes, Refusal>
     ensures left { left result (outputs postings.new block_offsets.new summary_components.new component_offsets.new
         summary_ids.new codes.new minimums.new steps.new) keys.new places.new maxima.new
-        entry_counts.new ≡ left_by (laid_verdict dimension strategy (documents offsets.now components.now values.now)
+        entry_counts.new ≡ left_by (laid_verdict dimension strategy (lent_documents documents.entry)
         order.now blocks.now (counting keys.old places.old maxima.old entry_counts.old
         minimums.old steps.old) (output_lengths (outputs postings.old block_offsets.old summary_components.old
         component_offsets.old summary_ids.old codes.old minimums.old steps.old))) (built_from dimension strategy
-        (documents offsets.now components.now values.now) order.now blocks.now) (outputs postings.old
+        (lent_documents documents.entry) order.now blocks.now) (outputs postings.old
         block_offsets.old summary_components.old component_offsets.old summary_ids.old codes.old
         minimums.old steps.old) keys.old places.old maxima.old entry_counts.old }
     ensures store { store.new ≡ zeros store.old }
@@ -67,9 +66,7 @@ pub fn write(
     let answer = build_sizes::measure(
         dimension,
         strategy,
-        offsets,
-        components,
-        values,
+        documents,
         order,
         blocks,
         keys,
@@ -85,9 +82,7 @@ pub fn write(
         answer,
         dimension,
         strategy,
-        offsets,
-        components,
-        values,
+        documents,
         order,
         blocks,
         postings,

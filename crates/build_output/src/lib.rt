@@ -5,6 +5,7 @@
 ghost use Rattle.std.specs.Prelude.{◌≡◌, [], map};
 ghost use Rattle.std.proofs.lemmas.List.Edits.{sets};
 ghost use Rattle.documents.specs.Documents.{documents};
+ghost use Rattle.documents.specs.Lent.{lent};
 ghost use Rattle.build_meaning.specs.Building.{outputs, zeros, float_zeros};
 ghost use Rattle.build_sizes.specs.Sized.{posting_of};
 ghost use Rattle.build_output.specs.Placed.{written, second_pass};
@@ -12,6 +13,7 @@ ghost use Rattle.build_output.specs.Settled.{left, settled};
 
 use build_meaning::BuiltSizes;
 use configuration::SummarizationStrategy;
+use documents::Documents;
 use number_types::DocumentId;
 use packing::PackedPosting;
 use refusal::Refusal;
@@ -50,9 +52,7 @@ fn write_offsets(blocks: &[u64], block_offsets: &mut [u64])
 fn place(
     dimension: u64,
     strategy: SummarizationStrategy,
-    offsets: &[u64],
-    components: &[u32],
-    values: &[f32],
+    documents: Documents<'_>,
     order: &[u64],
     blocks: &[u64],
     keys: &mut [u64],
@@ -68,7 +68,7 @@ fn place(
     store: &[u64],
 )
     ensures output { written postings.new block_offsets.new summary_components.new component_offsets.new
-        summary_ids.new codes.new ≡ second_pass dimension strategy (documents offsets.now components.now values.now)
+        summary_ids.new codes.new ≡ second_pass dimension strategy (lent documents.entry)
         order.now blocks.now store.now keys.old places.old maxima.old entry_counts.old
         (written postings.old block_offsets.old summary_components.old component_offsets.old
         summary_ids.old codes.old) }
@@ -86,9 +86,7 @@ fn place(
     build_fill_pass::fill(
         dimension,
         strategy,
-        offsets,
-        components,
-        values,
+        documents,
         order,
         blocks,
         keys,
@@ -100,7 +98,7 @@ fn place(
         store,
     );
     clearing::clear(entry_counts);
-    write_postings(offsets, order, postings);
+    write_postings(documents.offsets, order, postings);
     write_offsets(blocks, block_offsets);
 }
 
@@ -114,9 +112,7 @@ pub fn settle(
     answer: Result<BuiltSizes, Refusal>,
     dimension: u64,
     strategy: SummarizationStrategy,
-    offsets: &[u64],
-    components: &[u32],
-    values: &[f32],
+    documents: Documents<'_>,
     order: &[u64],
     blocks: &[u64],
     postings: &mut [u64],
@@ -135,7 +131,7 @@ pub fn settle(
 ) -> Result<BuiltSizes, Refusal>
     ensures { left result (outputs postings.new block_offsets.new summary_components.new component_offsets.new
         summary_ids.new codes.new minimums.new steps.new) keys.new places.new maxima.new
-        entry_counts.new ≡ settled answer dimension strategy (documents offsets.now components.now values.now)
+        entry_counts.new ≡ settled answer dimension strategy (lent documents.entry)
         order.now blocks.now store.now (outputs postings.old block_offsets.old summary_components.old
         component_offsets.old summary_ids.old codes.old minimums.old steps.old) keys.old
         places.old maxima.old entry_counts.old }
@@ -159,9 +155,7 @@ pub fn settle(
             place(
                 dimension,
                 strategy,
-                offsets,
-                components,
-                values,
+                documents,
                 order,
                 blocks,
                 keys,

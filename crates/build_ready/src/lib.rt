@@ -4,7 +4,7 @@
 ghost use Rattle.std.specs.Prelude.{◌≡◌, not, [], ◌∷◌, ◌++◌};
 ghost use Rattle.refusal.specs.declared.Refusal.TheVariants.{BufferTooShort};
 ghost use Rattle.refusal.specs.First.{◌gives◌, first_of};
-ghost use Rattle.documents.specs.Documents.{documents};
+ghost use Rattle.documents.specs.Lent.{lent as lent_documents};
 ghost use Rattle.build_admission.specs.Admission.{input_tests};
 ghost use Rattle.build_meaning.specs.Needs.{sizes_for, scratch_needs, scratch_suffices};
 ghost use Rattle.build_meaning.specs.Building.{scratches, cleared_scratch};
@@ -12,6 +12,7 @@ ghost use Rattle.build_scratch.specs.Lengths.{shown};
 ghost use Rattle.build_ready.specs.Made.{make_tests};
 
 use configuration::BlockingStrategy;
+use documents::Documents;
 use refusal::Refusal;
 use scratch::ScratchLengths;
 
@@ -19,23 +20,17 @@ use scratch::ScratchLengths;
 fn judge(
     dimension: u64,
     blocking: BlockingStrategy,
-    offsets: &[u64],
-    components: &[u32],
-    values: &[f32],
+    documents: Documents<'_>,
     ids: &[u64],
     centroids: &[u64],
     lent: ScratchLengths,
 ) -> Result<(), Refusal>
-    ensures { result ≡ first_of (input_tests dimension blocking (documents offsets.now components.now values.now) ids.now centroids.now
-        ++ ((not (scratch_suffices (shown (scratch_needs (sizes_for dimension blocking (documents offsets.now components.now values.now) ids.now
+    ensures { result ≡ first_of (input_tests dimension blocking (lent_documents documents.entry) ids.now centroids.now
+        ++ ((not (scratch_suffices (shown (scratch_needs (sizes_for dimension blocking (lent_documents documents.entry) ids.now
         centroids.now))) lent) gives BufferTooShort) ∷ [])) }
 {
-    build_admission::admitted(
-        dimension, blocking, offsets, components, values, ids, centroids,
-    )?;
-    let needed = build_scratch::scratch_needs(
-        dimension, blocking, offsets, components, values, ids, centroids,
-    );
+    build_admission::admitted(dimension, blocking, documents, ids, centroids)?;
+    let needed = build_scratch::scratch_needs(dimension, blocking, documents, ids, centroids);
     if !build_scratch::suffices(needed, lent) {
         return Err(Refusal::BufferTooShort);
     }
@@ -47,9 +42,7 @@ fn judge(
 pub fn ready(
     dimension: u64,
     blocking: BlockingStrategy,
-    offsets: &[u64],
-    components: &[u32],
-    values: &[f32],
+    documents: Documents<'_>,
     ids: &[u64],
     centroids: &[u64],
     order: &mut [u64],
@@ -64,7 +57,7 @@ pub fn ready(
     sums: &mut [f32],
     keys: &mut [u64],
 ) -> Result<(), Refusal>
-    ensures answer { result ≡ first_of (make_tests dimension blocking (documents offsets.now components.now values.now) ids.now centroids.now
+    ensures answer { result ≡ first_of (make_tests dimension blocking (lent_documents documents.entry) ids.now centroids.now
         (scratches order.old blocks.old sorted.old known.old taken.old counts.old
         starts.old slots.old weights.old sums.old keys.old)) }
     ensures scratch { scratches order.new blocks.new sorted.new known.new taken.new counts.new
@@ -85,9 +78,7 @@ pub fn ready(
         sums: sums.len() as u64,
         keys: keys.len() as u64,
     };
-    let verdict = judge(
-        dimension, blocking, offsets, components, values, ids, centroids, lent,
-    );
+    let verdict = judge(dimension, blocking, documents, ids, centroids, lent);
     build_clearing::clear_scratch(
         order, blocks, sorted, known, taken, counts, starts, slots, weights, sums, keys,
     );

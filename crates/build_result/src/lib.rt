@@ -3,13 +3,14 @@
 #![tactic(auto)]
 
 ghost use Rattle.std.specs.Prelude.{◌≡◌};
-ghost use Rattle.documents.specs.Documents.{documents};
+ghost use Rattle.documents.specs.Lent.{lent};
 ghost use Rattle.build_meaning.specs.Building.{outputs};
 ghost use Rattle.build_layout.specs.Laid.{left};
 ghost use Rattle.build_result.specs.Finished.{finished, finished_by, slots_by};
 
 use build_meaning::BuiltSizes;
 use configuration::SummarizationStrategy;
+use documents::Documents;
 use refusal::Refusal;
 
 // Writes the result of a build from the blocks that were made: the first `listed` of `order` and as many of `blocks` as there are
@@ -19,9 +20,7 @@ pub fn finish(
     made: Result<u64, Refusal>,
     dimension: u64,
     summarization: SummarizationStrategy,
-    offsets: &[u64],
-    components: &[u32],
-    values: &[f32],
+    documents: Documents<'_>,
     listed: usize,
     postings: &mut [u64],
     block_offsets: &mut [u64],
@@ -42,7 +41,7 @@ pub fn finish(
     ensures left { finished (left result (outputs postings.new block_offsets.new summary_components.new component_offsets.new
         summary_ids.new codes.new minimums.new steps.new)
         keys.new counts.new sums.new starts.new) order.new blocks.new
-        ≡ finished_by made dimension summarization (documents offsets.now components.now values.now) listed
+        ≡ finished_by made dimension summarization (lent documents.entry) listed
         (outputs postings.old block_offsets.old summary_components.old component_offsets.old
         summary_ids.old codes.old minimums.old steps.old)
         order.old blocks.old keys.old counts.old sums.old starts.old }
@@ -63,15 +62,13 @@ pub fn finish(
             Err(reason)
         }
         Ok(count) => {
-            let documents = listed.min(order.len());
+            let ordered = listed.min(order.len());
             let starting = (count as usize).min(blocks.len());
             let answer = build_layout::write(
                 dimension,
                 summarization,
-                offsets,
-                components,
-                values,
-                &order[..documents],
+                documents,
+                &order[..ordered],
                 &blocks[..starting],
                 postings,
                 block_offsets,

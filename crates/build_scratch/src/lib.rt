@@ -4,22 +4,24 @@
 
 ghost use Rattle.std.specs.Prelude.{◌≡◌, map, ◌+◌, length};
 ghost use Rattle.sequences.specs.Lists.{joined};
-ghost use Rattle.documents.specs.Documents.{documents, terms};
+ghost use Rattle.documents.specs.Documents.{terms};
+ghost use Rattle.documents.specs.Lent.{lent as lent_documents};
 ghost use Rattle.build_meaning.specs.Needs.{sizes, sizes_for, scratch_needs, scratch_suffices};
 ghost use Rattle.build_scratch.specs.Lengths.{capped, shown};
 
 use configuration::BlockingStrategy;
+use documents::Documents;
 use number_types::DocumentId;
 use scratch::ScratchLengths;
 
 // How many terms the listed documents have, each counted as often as it is listed.
-fn term_total(offsets: &[u64], components: &[u32], values: &[f32], listed: &[u64]) -> u64
-    ensures { result ≡ capped (length (joined (map (terms (documents offsets.now components.now values.now)) listed.now))) }
+fn term_total(documents: Documents<'_>, listed: &[u64]) -> u64
+    ensures { result ≡ capped (length (joined (map (terms (lent_documents documents.entry)) listed.now))) }
 {
-    let count = documents::term_count(components, values);
+    let count = documents::term_count(documents.components, documents.values);
     let mut total = 0u64;
     for id in listed {
-        let at = documents::places(offsets, count, DocumentId(*id));
+        let at = documents::places(documents.offsets, count, DocumentId(*id));
         total = total.saturating_add((at.to - at.from) as u64);
     }
     total
@@ -55,17 +57,15 @@ pub fn needs_of_sizes(
 pub fn scratch_needs(
     dimension: u64,
     blocking: BlockingStrategy,
-    offsets: &[u64],
-    components: &[u32],
-    values: &[f32],
+    documents: Documents<'_>,
     ids: &[u64],
     centroids: &[u64],
 ) -> ScratchLengths
-    ensures { result ≡ shown (scratch_needs (sizes_for dimension blocking (documents offsets.now components.now values.now) ids.now
+    ensures { result ≡ shown (scratch_needs (sizes_for dimension blocking (lent_documents documents.entry) ids.now
         centroids.now)) }
 {
     let taken = build_admission::centroids_taken(blocking, centroids.len());
-    let terms = term_total(offsets, components, values, &centroids[..taken]);
+    let terms = term_total(documents, &centroids[..taken]);
     needs_of_sizes(ids.len() as u64, taken as u64, terms, dimension)
 }
 

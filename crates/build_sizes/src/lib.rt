@@ -2,13 +2,14 @@
 #![tactic(auto)]
 
 ghost use Rattle.std.specs.Prelude.{◌≡◌, ◌-◌};
-ghost use Rattle.documents.specs.Documents.{documents};
+ghost use Rattle.documents.specs.Lent.{lent as lent_documents};
 ghost use Rattle.build_count_pass.specs.Counting.{counting};
 ghost use Rattle.refusal.specs.First.{first_of};
 ghost use Rattle.build_sizes.specs.Sized.{work_tests, room_of, room_answer, Measures, measured_store};
 
 use build_meaning::BuiltSizes;
 use configuration::SummarizationStrategy;
+use documents::Documents;
 use refusal::Refusal;
 use sparse_layout::Sizes;
 
@@ -84,9 +85,7 @@ fn judge_work(
 pub fn measure(
     dimension: u64,
     strategy: SummarizationStrategy,
-    offsets: &[u64],
-    components: &[u32],
-    values: &[f32],
+    documents: Documents<'_>,
     order: &[u64],
     blocks: &[u64],
     keys: &mut [u64],
@@ -98,11 +97,11 @@ pub fn measure(
     lent: OutputLengths,
     store: &mut [u64],
 ) -> Result<BuiltSizes, Refusal>
-    ensures left { Measures dimension strategy (documents offsets.now components.now values.now) order.now
+    ensures left { Measures dimension strategy (lent_documents documents.entry) order.now
         blocks.now (counting keys.old places.old maxima.old entry_counts.old minimums.old
         steps.old) (room_of lent) result (counting keys.new places.new maxima.new entry_counts.new minimums.new
         steps.new) }
-    ensures store { store.new ≡ measured_store dimension strategy (documents offsets.now components.now values.now) order.now
+    ensures store { store.new ≡ measured_store dimension strategy (lent_documents documents.entry) order.now
         blocks.now (counting keys.old places.old maxima.old entry_counts.old minimums.old
         steps.old) store.old }
 {
@@ -118,9 +117,7 @@ pub fn measure(
     let full = build_count_pass::count(
         dimension,
         strategy,
-        offsets,
-        components,
-        values,
+        documents,
         order,
         blocks,
         keys,

@@ -2,13 +2,14 @@
 #![tactic(auto)]
 
 ghost use Rattle.std.specs.Prelude.{◌≡◌};
-ghost use Rattle.documents.specs.Documents.{documents};
+ghost use Rattle.documents.specs.Lent.{lent};
 ghost use Rattle.build_meaning.specs.Built.{input};
 ghost use Rattle.build_meaning.specs.Building.{outputs};
 ghost use Rattle.build_small.specs.Short.{made, made_short};
 
 use build_meaning::BuiltSizes;
 use configuration::{BlockingStrategy, SummarizationStrategy};
+use documents::Documents;
 use refusal::Refusal;
 
 // posting_list::build with 512 places for the terms of the centroids (slots and weights) and 64 in every other scratch buffer, so that a
@@ -17,9 +18,7 @@ pub fn build(
     dimension: u64,
     blocking: BlockingStrategy,
     summarization: SummarizationStrategy,
-    offsets: &[u64],
-    components: &[u32],
-    values: &[f32],
+    documents: Documents<'_>,
     ids: &[u64],
     centroids: &[u64],
     postings: &mut [u64],
@@ -33,7 +32,7 @@ pub fn build(
 ) -> Result<BuiltSizes, Refusal>
     ensures { made result (outputs postings.new block_offsets.new summary_components.new component_offsets.new summary_ids.new
         codes.new minimums.new steps.new)
-        ≡ made_short (input dimension blocking summarization (documents offsets.now components.now values.now) ids.now centroids.now)
+        ≡ made_short (input dimension blocking summarization (lent documents.entry) ids.now centroids.now)
         (outputs postings.old block_offsets.old summary_components.old component_offsets.old summary_ids.old codes.old
         minimums.old steps.old) }
 {
@@ -52,9 +51,7 @@ pub fn build(
         dimension,
         blocking,
         summarization,
-        offsets,
-        components,
-        values,
+        documents,
         ids,
         centroids,
         postings,

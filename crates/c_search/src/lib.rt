@@ -4,12 +4,15 @@
 
 ghost use Rattle.std.specs.Prelude.{◌≡◌};
 ghost use Rattle.kept_list.specs.Lent.{lent};
-ghost use Rattle.sparse_scores.specs.Layout.{arrays};
-ghost use Rattle.search_probe.specs.Probed.{terms, lends, in_numbers};
+ghost use Rattle.sparse_scores.specs.Lent.{layout_lent};
+ghost use Rattle.search_probe.specs.Probed.{lends, in_numbers};
+ghost use Rattle.search_probe.specs.Lent.{lent_terms};
 ghost use Rattle.search.specs.Searched.{question};
 ghost use Rattle.c_search.specs.Found.{shown, seen};
 
+use documents::Terms;
 use search_probe::Answer;
+use sparse_scores::summaries::Summaries;
 
 // The number of a search's answer, and the numbers that go with it: each is 0 where the answer has none of its kind.
 fn show(answer: Answer, position: &mut u64, evaluated: &mut u64, skipped: &mut u64) -> u64
@@ -47,20 +50,13 @@ fn show(answer: Answer, position: &mut u64, evaluated: &mut u64, skipped: &mut u
 // search that was not stopped; else they are 0.
 pub fn find(
     by_score: u64,
-    query_components: &[u32],
-    query_values: &[f32],
+    query: Terms<'_>,
     k: u64,
     factor: f32,
-    components: &[u32],
-    values: &[f32],
+    terms: Terms<'_>,
     postings: &[u64],
     block_offsets: &[u64],
-    summary_components: &[u32],
-    component_offsets: &[u64],
-    summary_ids: &[u16],
-    codes: &[u8],
-    minimums: &[f32],
-    steps: &[f32],
+    summaries: Summaries<'_>,
     length: &mut u64,
     packed: &mut [u64],
     scores: &mut [f32],
@@ -73,27 +69,19 @@ pub fn find(
 ) -> u64
     ensures { shown result position.new evaluated.new skipped.new (lends (lent length.new packed.new
         scores.new) visits.new) block_scores.new block_order.new
-        ≡ seen by_score (question k factor (terms query_components.now query_values.now components.now values.now)
-        postings.now block_offsets.now (arrays summary_components.now component_offsets.now summary_ids.now
-        codes.now minimums.now steps.now)) (lends (lent length.old packed.old scores.old)
+        ≡ seen by_score (question k factor (lent_terms query.entry terms.entry)
+        postings.now block_offsets.now (layout_lent summaries.entry)) (lends (lent length.old packed.old scores.old)
         visits.old) block_scores.old block_order.old }
 {
     if by_score == 0 {
         let answer = search::search(
-            query_components,
-            query_values,
+            query,
             k,
             factor,
-            components,
-            values,
+            terms,
             postings,
             block_offsets,
-            summary_components,
-            component_offsets,
-            summary_ids,
-            codes,
-            minimums,
-            steps,
+            summaries,
             length,
             packed,
             scores,
@@ -103,20 +91,13 @@ pub fn find(
         return show(answer, position, evaluated, skipped);
     }
     let answer = search::sort_and_search(
-        query_components,
-        query_values,
+        query,
         k,
         factor,
-        components,
-        values,
+        terms,
         postings,
         block_offsets,
-        summary_components,
-        component_offsets,
-        summary_ids,
-        codes,
-        minimums,
-        steps,
+        summaries,
         length,
         packed,
         scores,

@@ -4,7 +4,8 @@ use Rattle.sequences.specs.Lists.{those, first_or}
 use Rattle.documents.specs.Documents.{Documents}
 use Rattle.counting_sort.specs.Counting.{counted}
 use Rattle.cluster_index.specs.Index.{indexed}
-use Rattle.cluster_passes.specs.Ranked.{rank_in, is_small}
+use Rattle.sort.specs.Ranked.{rank_in}
+use Rattle.cluster_passes.specs.Ranked.{is_small}
 use Rattle.cluster_passes.specs.Indexes.{index_documents}
 use Rattle.cluster_approximate_pass.specs.Taking.{nearly_choice, again_rank}
 

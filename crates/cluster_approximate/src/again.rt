@@ -2,21 +2,21 @@
 ghost use Rattle.std.specs.Prelude.{◌≡◌, false, not, ◌≤◌, pos, length, replicate};
 ghost use Rattle.std.specs.Float.{fin};
 ghost use Rattle.sequences.specs.Lists.{every};
-ghost use Rattle.documents.specs.Documents.{documents};
+ghost use Rattle.documents.specs.Lent.{lent};
 ghost use Rattle.cluster_meaning.specs.Clusters.{small};
 ghost use Rattle.cluster_passes.specs.Passes.{over};
 ghost use Rattle.cluster_approximate.specs.Approximate.{both_ranks};
 
 use crate::gathering::gather;
 use cluster_approximate_pass::second_pass;
+use cluster_index::Index;
 use cluster_ranks::{first_of, is_small};
+use documents::Documents;
 use number_types::CentroidRank;
 
 // Gathers the centroids that remain, fills their index, and takes the documents of dissolved groups again.
 fn take_again(
-    offsets: &[u64],
-    components: &[u32],
-    values: &[f32],
+    documents: Documents<'_>,
     ids: &[u64],
     cut: u64,
     minimum: u64,
@@ -32,25 +32,15 @@ fn take_again(
     taken: &mut [u64],
 )
     requires { length centroids.now ≤ length competing.old }
-    ensures { taken.new ≡ over (both_ranks (documents offsets.now components.now values.now) cut minimum
+    ensures { taken.new ≡ over (both_ranks (lent documents.entry) cut minimum
         centroids.now known.now counts.now (length starts.old) (length slots.old) (length weights.old)
         (length sums.old) (length keys.old)) ids.now taken.old }
 {
     let m = gather(minimum, centroids, known, counts, competing);
-    cluster_index::fill(
-        offsets,
-        components,
-        values,
-        &competing[..m],
-        starts,
-        slots,
-        weights,
-    );
+    cluster_index::fill(documents, &competing[..m], starts, slots, weights);
     let first = first_of(centroids);
     second_pass(
-        offsets,
-        components,
-        values,
+        documents,
         ids,
         cut,
         minimum,
@@ -58,9 +48,11 @@ fn take_again(
         &competing[..m],
         known,
         counts,
-        starts,
-        slots,
-        weights,
+        Index {
+            starts,
+            slots,
+            weights,
+        },
         sums,
         keys,
         taken,
@@ -109,9 +101,7 @@ fn clear(
 // Takes the documents of dissolved groups again; where no group dissolves there are none, and no index is filled. The work space is all
 // zero afterwards.
 pub(crate) fn assign_again(
-    offsets: &[u64],
-    components: &[u32],
-    values: &[f32],
+    documents: Documents<'_>,
     ids: &[u64],
     cut: u64,
     minimum: u64,
@@ -127,7 +117,7 @@ pub(crate) fn assign_again(
     taken: &mut [u64],
 )
     requires { length centroids.now ≤ length competing.old }
-    ensures taken { taken.new ≡ over (both_ranks (documents offsets.now components.now values.now) cut minimum
+    ensures taken { taken.new ≡ over (both_ranks (lent documents.entry) cut minimum
         centroids.now known.now counts.old (length starts.old) (length slots.old) (length weights.old)
         (length sums.old) (length keys.old)) ids.now taken.old }
     ensures competing { competing.new ≡ replicate (length competing.old) 0 }
@@ -143,8 +133,8 @@ pub(crate) fn assign_again(
         return;
     }
     take_again(
-        offsets, components, values, ids, cut, minimum, centroids, known, competing, counts,
-        starts, slots, weights, sums, keys, taken,
+        documents, ids, cut, minimum, centroids, known, competing, counts, starts, slots, weights,
+        sums, keys, taken,
     );
     clear(competing, counts, starts, slots, weights, sums, keys);
 }

@@ -7,7 +7,8 @@ use mathlib.Core.List.{List, [], ◌∷◌, ◌++◌, zip_with}
 use lib.ListN.{length, get_or, set, take, drop}
 use lib.Seq.{set-get_or}
 use Rattle.documents.specs.Documents.{Documents}
-use Rattle.cluster_passes.specs.Ranked.{rank_in, is_small}
+use Rattle.sort.specs.Ranked.{rank_in}
+use Rattle.cluster_passes.specs.Ranked.{is_small}
 use Rattle.cluster_passes.specs.Passes.{over}
 use Rattle.cluster_passes.specs.Laws.Passes.{Over, over-read, over-step, cut-drop}
 use Rattle.cluster_approximate_pass.specs.Taking.{nearly_choice, again_rank}

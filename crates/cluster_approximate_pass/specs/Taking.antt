@@ -3,7 +3,8 @@ use Rattle.std.specs.Prelude.{ℕ, cond, List, take}
 use Rattle.documents.specs.Documents.{Documents, terms, largest}
 use Rattle.cluster_nearest.specs.Nearest.{last_no_less}
 use Rattle.cluster_nearest.specs.Scored.{scores_of}
-use Rattle.cluster_passes.specs.Ranked.{rank_in, is_small}
+use Rattle.sort.specs.Ranked.{rank_in}
+use Rattle.cluster_passes.specs.Ranked.{is_small}
 
 -- the last greatest of those that compete, by the largest of the terms that find a place
 abbrev pub nearly_choice : ℕ → ℕ → List ℕ → Documents → ℕ → ℕ → Documents → ℕ → ℕ

@@ -4,18 +4,17 @@
 ghost use Rattle.std.specs.Prelude.{◌≡◌, ◌++◌, length, take, drop};
 ghost use Rattle.sort.specs.Sorted.{sorted};
 ghost use Rattle.clearing.specs.Zeros.{zeros, float_zeros};
-ghost use Rattle.documents.specs.Documents.{documents};
+ghost use Rattle.documents.specs.Lent.{lent};
 ghost use Rattle.cluster_by_mode.specs.Modes.{ranks_by, fitting};
 
 use configuration::ClusteringAlgorithm;
+use documents::Documents;
 
 // Takes each document by the rank of its centroid in a list of known ones.
 fn take_by(
     algorithm: ClusteringAlgorithm,
     minimum: u64,
-    offsets: &[u64],
-    components: &[u32],
-    values: &[f32],
+    documents: Documents<'_>,
     ids: &[u64],
     centroids: &[u64],
     known: &[u64],
@@ -28,7 +27,7 @@ fn take_by(
     keys: &mut [u64],
     taken: &mut [u64],
 )
-    ensures taken { taken.new ≡ ranks_by algorithm (documents offsets.now components.now values.now) minimum
+    ensures taken { taken.new ≡ ranks_by algorithm (lent documents.entry) minimum
         centroids.now known.now (length competing.old)
         (length starts.old) (length slots.old) (length weights.old) (length sums.old)
         (length counts.old) (length keys.old) (take (length taken.old) ids.now)
@@ -44,16 +43,16 @@ fn take_by(
     match algorithm {
         ClusteringAlgorithm::RandomKmeans => {
             cluster_exact::assign(
-                offsets, components, values, ids, minimum, centroids, known, counts, starts, slots,
-                weights, sums, taken,
+                documents, ids, minimum, centroids, known, counts, starts, slots, weights, sums,
+                taken,
             );
             clearing::clear(competing);
             clearing::clear(keys);
         }
         ClusteringAlgorithm::RandomKmeansInvertedIndexApprox { doc_cut } => {
             cluster_approximate::assign(
-                offsets, components, values, ids, doc_cut, minimum, centroids, known, competing,
-                counts, starts, slots, weights, sums, keys, taken,
+                documents, ids, doc_cut, minimum, centroids, known, competing, counts, starts,
+                slots, weights, sums, keys, taken,
             );
         }
     }
@@ -66,9 +65,7 @@ fn take_by(
 pub fn assign(
     algorithm: ClusteringAlgorithm,
     minimum: u64,
-    offsets: &[u64],
-    components: &[u32],
-    values: &[f32],
+    documents: Documents<'_>,
     ids: &[u64],
     centroids: &[u64],
     known: &mut [u64],
@@ -81,7 +78,7 @@ pub fn assign(
     keys: &mut [u64],
     taken: &mut [u64],
 )
-    ensures taken { taken.new ≡ ranks_by algorithm (documents offsets.now components.now values.now) minimum
+    ensures taken { taken.new ≡ ranks_by algorithm (lent documents.entry) minimum
         (fitting (length known.old) (length competing.old) centroids.now)
         (sorted (fitting (length known.old) (length competing.old) centroids.now)) (length competing.old)
         (length starts.old) (length slots.old) (length weights.old) (length sums.old)
@@ -102,9 +99,7 @@ pub fn assign(
     take_by(
         algorithm,
         minimum,
-        offsets,
-        components,
-        values,
+        documents,
         ids,
         &centroids[..m],
         &known[..m],

@@ -5,7 +5,8 @@ use Rattle.counting_sort.specs.Counting.{counted}
 use Rattle.cluster_index.specs.Index.{indexed}
 use Rattle.cluster_nearest.specs.Nearest.{first_above}
 use Rattle.cluster_nearest.specs.Scored.{scores_of}
-use Rattle.cluster_passes.specs.Ranked.{rank_in, listed_at, took_itself}
+use Rattle.sort.specs.Ranked.{rank_in}
+use Rattle.cluster_passes.specs.Ranked.{listed_at, took_itself}
 use Rattle.cluster_passes.specs.Indexes.{index_documents}
 
 -- ---- what the passes leave, for slices of any length: s offsets, a slots, b weights, n scores, k counters

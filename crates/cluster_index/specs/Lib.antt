@@ -1,3 +1,4 @@
 pub mod Index
 pub mod Walks
 pub mod Laws
+pub mod Lent

@@ -5,15 +5,17 @@
 
 ghost use Rattle.std.specs.Prelude.{◌≡◌, min, length, take};
 ghost use mathlib.Core.List.{map, foldl, zip_with};
-ghost use Rattle.std.specs.Float.Ieee.{lt};
 ghost use Rattle.std.proofs.lemmas.List.Edits.{sets};
-ghost use Rattle.sequences.specs.Lists.{every};
-ghost use Rattle.documents.specs.Documents.{documents, terms, paired, largest};
+ghost use Rattle.documents.specs.Documents.{documents as documents_of, terms, paired, largest};
 ghost use Rattle.documents.specs.TermKeys.{term_key, term_of};
+ghost use Rattle.documents.specs.Lent.{lent};
 ghost use Rattle.cluster_nearest.specs.Scored.{scores_of};
 ghost use Rattle.cluster_nearest.specs.Keys.{KeysLeft};
 ghost use Rattle.cluster_nearest.specs.Nearest.{candidate, if_greater, if_no_less, first_above, last_no_less};
+ghost use Rattle.cluster_index.specs.Lent.{entries_lent};
 
+use cluster_index::Index;
+use documents::Documents;
 use number_types::DocumentId;
 
 // A centroid, by its document, with a document's score.
@@ -89,17 +91,6 @@ fn last_of(first: Candidate, centroids: &[u64], sums: &[f32]) -> Candidate
     best
 }
 
-// Whether every score is below x. It looks at all of them, so that the machine takes several at once.
-fn all_below(x: f32, sums: &[f32]) -> bool
-    ensures { result ≡ every (λ s. lt s x) sums.now }
-{
-    let mut ok = true;
-    for &score in sums {
-        ok = ok & (score < x);
-    }
-    ok
-}
-
 // The last centroid with the greatest score; another document's id where there is none. Sixteen scores at a time that are all below the best
 // so far are passed over at once.
 pub fn last_greatest(otherwise: DocumentId, centroids: &[u64], sums: &[f32]) -> DocumentId
@@ -120,7 +111,7 @@ pub fn last_greatest(otherwise: DocumentId, centroids: &[u64], sums: &[f32]) -> 
     // sixteen at a time by place, since those that are left over follow after the loop
     while 16 <= n - i {
         let end = i + 16;
-        if !all_below(best.score, &sums[i..end]) {
+        if !float32::all_below(&sums[i..end], best.score) {
             best = last_of(best, &centroids[i..end], &sums[i..end]);
         }
         i = end;
@@ -131,28 +122,22 @@ pub fn last_greatest(otherwise: DocumentId, centroids: &[u64], sums: &[f32]) -> 
 
 // The centroid that takes a document by all of its terms. The scores by slot stay in their slice.
 pub fn nearest_to(
-    offsets: &[u64],
-    components: &[u32],
-    values: &[f32],
+    documents: Documents<'_>,
     id: DocumentId,
     centroids: &[u64],
-    starts: &[u64],
-    slots: &[u64],
-    weights: &[f32],
+    index: Index<'_>,
     sums: &mut [f32],
 ) -> DocumentId
-    ensures sums { sums.new ≡ scores_of (documents starts.now slots.now weights.now) (length sums.old)
-        (terms (documents offsets.now components.now values.now) id.0) }
+    ensures sums { sums.new ≡ scores_of (entries_lent index.entry) (length sums.old)
+        (terms (lent documents.entry) id.0) }
     ensures answer { result.0 ≡ first_above centroids.now sums.new }
 {
     clearing::clear(sums);
-    let p = cluster_index::places_of(offsets, components, values, id);
+    let p = cluster_index::places_of(documents, id);
     cluster_index::add_terms(
-        starts,
-        slots,
-        weights,
-        &components[p.from..p.to],
-        &values[p.from..p.to],
+        index,
+        &documents.components[p.from..p.to],
+        &documents.values[p.from..p.to],
         sums,
     );
     first_above_zero(centroids, sums)
@@ -184,24 +169,16 @@ fn sort_keys(cut: usize, components: &[u32], values: &[f32], keys: &mut [u64]) -
 // Leaves the keys of a document's terms at the front of a slice, and answers how many of them are within a cut: these come first, the
 // largest at the start, and stand for so many of its largest terms. The others follow in some order. Terms that find no place are left
 // out. It takes time in proportion to the terms and to the sort of those within the cut; at worst to the sort of all.
-pub fn largest_keys(
-    offsets: &[u64],
-    components: &[u32],
-    values: &[f32],
-    id: DocumentId,
-    cut: u64,
-    keys: &mut [u64],
-) -> usize
-    ensures keys { KeysLeft cut (terms (documents offsets.now components.now values.now) id.0) keys.old keys.new }
-    ensures answer { result ≡ min cut (min (length (terms (documents offsets.now components.now values.now) id.0)) (length keys.old)) }
-    ensures terms { map term_of (take result keys.new) ≡ largest cut (take (length keys.old) (terms (documents offsets.now components.now
-        values.now) id.0)) }
+pub fn largest_keys(documents: Documents<'_>, id: DocumentId, cut: u64, keys: &mut [u64]) -> usize
+    ensures keys { KeysLeft cut (terms (lent documents.entry) id.0) keys.old keys.new }
+    ensures answer { result ≡ min cut (min (length (terms (lent documents.entry) id.0)) (length keys.old)) }
+    ensures terms { map term_of (take result keys.new) ≡ largest cut (take (length keys.old) (terms (lent documents.entry) id.0)) }
 {
-    let p = cluster_index::places_of(offsets, components, values, id);
+    let p = cluster_index::places_of(documents, id);
     let n = sort_keys(
         cut as usize,
-        &components[p.from..p.to],
-        &values[p.from..p.to],
+        &documents.components[p.from..p.to],
+        &documents.values[p.from..p.to],
         keys,
     );
     (cut as usize).min(n)

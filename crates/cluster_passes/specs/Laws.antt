@@ -3,3 +3,4 @@ pub mod Passes
 pub mod Indexes
 pub mod Sizes
 pub mod Room
+pub mod Searched

@@ -7,8 +7,10 @@ ghost use mathlib.Core.List.{map, foldl};
 ghost use Rattle.documents.specs.Documents.{documents};
 ghost use Rattle.documents.specs.TermKeys.{term_of};
 ghost use Rattle.cluster_index.specs.Index.{add_terms};
+ghost use Rattle.cluster_index.specs.Lent.{entries_lent};
 ghost use Rattle.cluster_slots.specs.Met.{slots_of, met, if_better, better, best_met, from_zero, last_before, chosen, clear_at, clear_met, chosen_by, set_back, nearest_by_keys, scores_after};
 
+use cluster_index::Index;
 use number_types::{CentroidSlot, DocumentId};
 
 // A slot with its score.
@@ -65,24 +67,30 @@ fn slots_met<'a>(starts: &[u64], slots: &'a [u64], weights: &[f32], key: u64) ->
     ensures { result.now ≡ slots_of (documents starts.now slots.now weights.now) (term_of key) }
 {
     let p = cluster_index::entries_of(
-        starts,
-        slots,
-        weights,
+        Index {
+            starts,
+            slots,
+            weights,
+        },
         term_keys::component_of_term_key(key),
     );
     &slots[p.from..p.to]
 }
 
 // The best of the slots that the terms with these keys meet; slot 0 with a score of +0 where none is better.
-fn best_met(starts: &[u64], slots: &[u64], weights: &[f32], keys: &[u64], sums: &[f32]) -> Best
-    ensures { result ≡ best_met (documents starts.now slots.now weights.now) sums.now (map term_of keys.now) }
+fn best_met(index: Index<'_>, keys: &[u64], sums: &[f32]) -> Best
+    ensures { result ≡ best_met (entries_lent index.entry) sums.now (map term_of keys.now) }
 {
     let mut b = Best {
         slot: CentroidSlot(0),
         score: 0.0,
     };
     for &key in keys {
-        b = best_slot(b, slots_met(starts, slots, weights, key), sums);
+        b = best_slot(
+            b,
+            slots_met(index.starts, index.slots, index.weights, key),
+            sums,
+        );
     }
     b
 }
@@ -104,17 +112,15 @@ fn last_from_zero(sums: &[f32]) -> Option<CentroidSlot>
 fn choose(
     otherwise: DocumentId,
     competing: &[u64],
-    starts: &[u64],
-    slots: &[u64],
-    weights: &[f32],
+    index: Index<'_>,
     keys: &[u64],
     sums: &[f32],
 ) -> DocumentId
     requires { length sums.now ≤ length competing.now }
-    ensures { result.0 ≡ chosen otherwise.0 competing.now (documents starts.now slots.now weights.now)
+    ensures { result.0 ≡ chosen otherwise.0 competing.now (entries_lent index.entry)
         sums.now (map term_of keys.now) }
 {
-    let best = best_met(starts, slots, weights, keys, sums);
+    let best = best_met(index, keys, sums);
     if !float32::at_most(best.score, 0.0) {
         let slot = best.slot;
         let at = slot.0 as usize;
@@ -149,21 +155,24 @@ fn clear_slots(slots: &[u64], sums: &mut [f32])
 }
 
 // Sets the scores of the slots that the terms with these keys meet to +0.
-fn clear_met(starts: &[u64], slots: &[u64], weights: &[f32], keys: &[u64], sums: &mut [f32])
-    ensures { sums.new ≡ clear_met (documents starts.now slots.now weights.now) sums.old (map term_of keys.now) }
+fn clear_met(index: Index<'_>, keys: &[u64], sums: &mut [f32])
+    ensures { sums.new ≡ clear_met (entries_lent index.entry) sums.old (map term_of keys.now) }
 {
     for &key in keys {
-        clear_slots(slots_met(starts, slots, weights, key), sums);
+        clear_slots(
+            slots_met(index.starts, index.slots, index.weights, key),
+            sums,
+        );
     }
 }
 
 // Whether the terms with these keys meet so many entries, or more. It takes one step for each key at the most.
-fn meets_many(starts: &[u64], slots: &[u64], weights: &[f32], keys: &[u64], many: usize) -> bool
-    ensures { result ≡ leb many (length (met (documents starts.now slots.now weights.now) (map term_of keys.now))) }
+fn meets_many(index: Index<'_>, keys: &[u64], many: usize) -> bool
+    ensures { result ≡ leb many (length (met (entries_lent index.entry) (map term_of keys.now))) }
 {
     let mut left = many;
     for &key in keys {
-        let size = slots_met(starts, slots, weights, key).len();
+        let size = slots_met(index.starts, index.slots, index.weights, key).len();
         if left <= size {
             return true;
         }
@@ -176,27 +185,25 @@ fn meets_many(starts: &[u64], slots: &[u64], weights: &[f32], keys: &[u64], many
 fn nearest_within(
     otherwise: DocumentId,
     competing: &[u64],
-    starts: &[u64],
-    slots: &[u64],
-    weights: &[f32],
+    index: Index<'_>,
     keys: &[u64],
     sums: &mut [f32],
 ) -> DocumentId
     requires { length sums.old ≤ length competing.now }
-    ensures answer { result.0 ≡ chosen_by otherwise.0 competing.now (documents starts.now slots.now weights.now)
-        (add_terms (documents starts.now slots.now weights.now) sums.old (map term_of keys.now)) (map term_of keys.now) }
-    ensures sums { sums.new ≡ set_back (documents starts.now slots.now weights.now)
-        (add_terms (documents starts.now slots.now weights.now) sums.old (map term_of keys.now)) (map term_of keys.now) }
+    ensures answer { result.0 ≡ chosen_by otherwise.0 competing.now (entries_lent index.entry)
+        (add_terms (entries_lent index.entry) sums.old (map term_of keys.now)) (map term_of keys.now) }
+    ensures sums { sums.new ≡ set_back (entries_lent index.entry)
+        (add_terms (entries_lent index.entry) sums.old (map term_of keys.now)) (map term_of keys.now) }
 {
-    cluster_index::add_keys(starts, slots, weights, keys, sums);
+    cluster_index::add_keys(index, keys, sums);
     // where there are as many entries as scores, one walk over the scores costs no more
-    if meets_many(starts, slots, weights, keys, sums.len()) {
+    if meets_many(index, keys, sums.len()) {
         let c = cluster_nearest::last_greatest(otherwise, competing, sums);
         clearing::clear(sums);
         return c;
     }
-    let c = choose(otherwise, competing, starts, slots, weights, keys, sums);
-    clear_met(starts, slots, weights, keys, sums);
+    let c = choose(otherwise, competing, index, keys, sums);
+    clear_met(index, keys, sums);
     c
 }
 
@@ -207,25 +214,15 @@ fn nearest_within(
 pub fn nearest_by_keys(
     otherwise: DocumentId,
     competing: &[u64],
-    starts: &[u64],
-    slots: &[u64],
-    weights: &[f32],
+    index: Index<'_>,
     keys: &[u64],
     sums: &mut [f32],
 ) -> DocumentId
-    ensures answer { result.0 ≡ nearest_by_keys otherwise.0 competing.now (documents starts.now slots.now weights.now) sums.old
+    ensures answer { result.0 ≡ nearest_by_keys otherwise.0 competing.now (entries_lent index.entry) sums.old
         (map term_of keys.now) }
-    ensures sums { sums.new ≡ scores_after competing.now (documents starts.now slots.now weights.now) sums.old
+    ensures sums { sums.new ≡ scores_after competing.now (entries_lent index.entry) sums.old
         (map term_of keys.now) }
 {
     let n = competing.len().min(sums.len());
-    nearest_within(
-        otherwise,
-        competing,
-        starts,
-        slots,
-        weights,
-        keys,
-        &mut sums[..n],
-    )
+    nearest_within(otherwise, competing, index, keys, &mut sums[..n])
 }

@@ -2,13 +2,14 @@
 #![tactic(auto)]
 
 ghost use Rattle.std.specs.Prelude.{◌≡◌, ◌≤◌, length, take};
-ghost use Rattle.documents.specs.Documents.{documents};
+ghost use Rattle.documents.specs.Lent.{lent};
 ghost use Rattle.clearing.specs.Zeros.{zeros};
 ghost use Rattle.counting_sort.specs.Counting.{grouped};
 ghost use Rattle.scratch.specs.Scratches.{scratches};
 ghost use Rattle.clustering.specs.Clustered.{some_groups, groups_in, clustered_in};
 
 use configuration::ClusteringAlgorithm;
+use documents::Documents;
 
 // The groups of as many documents as there are, and how many offsets they have: one more than groups. Of no documents there is no
 // offset, and nothing changes.
@@ -66,9 +67,7 @@ fn group_and_clear(
 pub fn cluster(
     algorithm: ClusteringAlgorithm,
     minimum: u64,
-    offsets: &[u64],
-    components: &[u32],
-    values: &[f32],
+    documents: Documents<'_>,
     ids: &[u64],
     centroids: &[u64],
     order: &mut [u64],
@@ -83,12 +82,12 @@ pub fn cluster(
     sums: &mut [f32],
     keys: &mut [u64],
 ) -> u64
-    ensures answer { result ≡ (groups_in algorithm (documents offsets.now components.now values.now) minimum ids.now centroids.now
+    ensures answer { result ≡ (groups_in algorithm (lent documents.entry) minimum ids.now centroids.now
         (scratches order.old blocks.old sorted.old known.old taken.old counts.old
         starts.old slots.old weights.old sums.old keys.old)).count }
     ensures scratch { scratches order.new blocks.new sorted.new known.new taken.new counts.new
         starts.new slots.new weights.new sums.new keys.new
-        ≡ clustered_in algorithm (documents offsets.now components.now values.now) minimum ids.now centroids.now
+        ≡ clustered_in algorithm (lent documents.entry) minimum ids.now centroids.now
         (scratches order.old blocks.old sorted.old known.old taken.old counts.old
         starts.old slots.old weights.old sums.old keys.old) }
 {
@@ -98,9 +97,7 @@ pub fn cluster(
     cluster_by_mode::assign(
         algorithm,
         minimum,
-        offsets,
-        components,
-        values,
+        documents,
         &sorted[..n],
         centroids,
         known,

@@ -18,7 +18,7 @@ pub enum BlockingStrategy {
     },
 }
 
-// How the nearest centroid is found.
+// How the nearest centroid is found. No Option of a cut: each is an algorithm of its own.
 #[derive(Clone, Copy)]
 pub enum ClusteringAlgorithm {
     // by the dot product with each centroid

@@ -31,10 +31,10 @@ unfolding offsets_hold_free
 offsets-none [] e = refl
 offsets-none (x ∷ os) e = let z : ⊥ = omega arith in absurd z
 
-pub offsets-first : (os : List ℕ) → 0 < length os → (eqb (get_or os 0 0) 0 && never_falls os) ≡ offsets_hold_free os
+pub offsets-some : (os : List ℕ) (r : Bool) → 0 < length os → r ≡ never_falls os → (eqb (get_or os 0 0) 0 && r) ≡ offsets_hold_free os
 unfolding offsets_hold_free
-offsets-first [] h = let z : ⊥ = omega arith in absurd z
-offsets-first (x ∷ os) h = refl
+offsets-some [] r h e = let z : ⊥ = omega arith in absurd z
+offsets-some (x ∷ os) r h e = ap (λ b. eqb x 0 && b) e
 
 -- a list from the place before i on
 two : (l : List ℕ) (i : ℕ) → 1 ≤ i → i < length l → drop (i - 1) l ≡ get_or l (i - 1) 0 ∷ drop i l
@@ -54,13 +54,20 @@ one l i p e =
     let s : suc (i - 1) ≡ length l = omega arith in
     drop-cons l (i - 1) 0 (omega arith) ∙ ap (λ k. get_or l (i - 1) 0 ∷ drop k l) s ∙ ap (λ r. get_or l (i - 1) 0 ∷ r) (drop-length l)
 
-pub offsets-step : (o : Bool) (os : List ℕ) (i : ℕ) → 1 ≤ i → i < length os → (o && leb (get_or os (i - 1) 0) (get_or os i 0) && never_falls (drop (i + 1 - 1) os)) ≡ (o && never_falls (drop (i - 1) os))
-offsets-step o os i p h =
+never-short : (os : List ℕ) → length os ≤ 1 → never_falls os ≡ true
+never-short [] h = refl
+never-short (a ∷ []) h = refl
+never-short (a ∷ b ∷ os) h = let z : ⊥ = omega arith in absurd z
+
+pub never-step : (o : Bool) (os : List ℕ) (i : ℕ) → 1 ≤ i → i < length os → (o && leb (get_or os (i - 1) 0) (get_or os i 0) && never_falls (drop (i + 1 - 1) os)) ≡ (o && never_falls (drop (i - 1) os))
+never-step o os i p h =
     let z : i + 1 - 1 ≡ i = omega arith in
     rw z (and_assoc o (leb (get_or os (i - 1) 0) (get_or os i 0)) (never_falls (drop i os)) ∙ ap (λ b. o && b) (sym (never-falls-two os i p h)))
 
-pub offsets-end : (o : Bool) (os : List ℕ) (i : ℕ) (w : Bool) → 1 ≤ i → i ≡ length os → (o && never_falls (drop (i - 1) os)) ≡ w → o ≡ w
-offsets-end o os i w p e h = sym (and-true o) ∙ sym (ap (λ r. o && never_falls r) (one os i p e)) ∙ h
+pub never-end : (o : Bool) (os : List ℕ) (i : ℕ) (w : Bool) → 1 ≤ i → length os ≤ i → (o && never_falls (drop (i - 1) os)) ≡ w → o ≡ w
+never-end o os i w p h e =
+    let few : length (drop (i - 1) os) ≤ 1 = simp length-drop (omega arith) in
+    sym (and-true o) ∙ rw (never-short (drop (i - 1) os) few) at e
 
 -- ---- terms
 pub terms-none : (cs : List ℕ) (vs : List Float) → length cs ≡ 0 → length cs ≡ length vs → true ≡ slices_hold cs vs

@@ -3,41 +3,51 @@
 #![tactic(auto)]
 
 ghost use Rattle.std.specs.Prelude.{◌≡◌, length};
-ghost use Rattle.documents.specs.Documents.{documents, terms};
+ghost use Rattle.sequences.specs.Lists.{never_falls};
+ghost use Rattle.documents.specs.Documents.{terms};
 ghost use Rattle.documents.specs.Checks.{offsets_hold_free, offsets_hold, ids_hold, slices_hold, slices_hold_below, terms_hold_below, documents_hold};
+ghost use Rattle.documents.specs.Lent.{lent};
 
+use documents::Documents;
 use number_types::DocumentId;
 
-// Whether the first offset is 0 and none falls; false where there are no offsets. One pass over the offsets, which leaves at none
-// of them, so that the compiler can take several at once.
-pub fn offsets_hold_free(offsets: &[u64]) -> bool
-    ensures { result ≡ offsets_hold_free offsets.now }
+// Whether no offset lies below the one before it. One pass over the offsets, which leaves at none of them, so that the compiler can take
+// several at once.
+pub fn never_falls(offsets: &[u64]) -> bool
+    ensures { result ≡ never_falls offsets.now }
 {
-    if offsets.is_empty() {
-        return false;
-    }
-    let mut ok = offsets[0] == 0;
+    let mut ok = true;
     for i in 1..offsets.len() {
         ok &= offsets[i - 1] <= offsets[i];
     }
     ok
 }
 
-// Whether, besides, the last offset is the number of terms, and the slices of the terms are equally long. One pass over the offsets.
-pub fn offsets_hold(offsets: &[u64], components: &[u32], values: &[f32]) -> bool
-    ensures { result ≡ offsets_hold (documents offsets.now components.now values.now) }
+// Whether the first offset is 0 and none falls; false where there are no offsets. One pass over the offsets.
+pub fn offsets_hold_free(offsets: &[u64]) -> bool
+    ensures { result ≡ offsets_hold_free offsets.now }
 {
-    let n = offsets.len();
+    if offsets.is_empty() {
+        return false;
+    }
+    (offsets[0] == 0) & never_falls(offsets)
+}
+
+// Whether, besides, the last offset is the number of terms, and the slices of the terms are equally long. One pass over the offsets.
+pub fn offsets_hold(documents: Documents<'_>) -> bool
+    ensures { result ≡ offsets_hold (lent documents.entry) }
+{
+    let n = documents.offsets.len();
     if n == 0 {
         return false;
     }
-    if components.len() != values.len() {
+    if documents.components.len() != documents.values.len() {
         return false;
     }
-    if offsets[n - 1] != components.len() as u64 {
+    if documents.offsets[n - 1] != documents.components.len() as u64 {
         return false;
     }
-    offsets_hold_free(offsets)
+    offsets_hold_free(documents.offsets)
 }
 
 // Whether each id is below the number of documents. One pass over the ids, which leaves at none of them.
@@ -102,37 +112,25 @@ pub fn slices_hold_below(dimension: u64, components: &[u32], values: &[f32]) -> 
 }
 
 // Whether a document's components strictly rise below the dimension and its values are in bound. One pass over its terms.
-pub fn document_holds(
-    dimension: u64,
-    offsets: &[u64],
-    components: &[u32],
-    values: &[f32],
-    id: DocumentId,
-) -> bool
-    ensures { result ≡ terms_hold_below dimension (terms (documents offsets.now components.now values.now) id.0) }
+pub fn document_holds(dimension: u64, documents: Documents<'_>, id: DocumentId) -> bool
+    ensures { result ≡ terms_hold_below dimension (terms (lent documents.entry) id.0) }
 {
-    let count = documents::term_count(components, values);
-    let at = documents::places(offsets, count, id);
+    let count = documents::term_count(documents.components, documents.values);
+    let at = documents::places(documents.offsets, count, id);
     slices_hold_below(
         dimension,
-        &components[at.from..at.to],
-        &values[at.from..at.to],
+        &documents.components[at.from..at.to],
+        &documents.values[at.from..at.to],
     )
 }
 
 // Whether that holds of each listed document. One pass over the terms of the listed documents.
-pub fn documents_hold(
-    dimension: u64,
-    offsets: &[u64],
-    components: &[u32],
-    values: &[f32],
-    ids: &[u64],
-) -> bool
-    ensures { result ≡ documents_hold dimension (documents offsets.now components.now values.now) ids.now }
+pub fn documents_hold(dimension: u64, documents: Documents<'_>, ids: &[u64]) -> bool
+    ensures { result ≡ documents_hold dimension (lent documents.entry) ids.now }
 {
     let mut ok = true;
     for id in ids {
-        ok &= document_holds(dimension, offsets, components, values, DocumentId(*id));
+        ok &= document_holds(dimension, documents, DocumentId(*id));
     }
     ok
 }

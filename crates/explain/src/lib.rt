@@ -6,16 +6,18 @@
 ghost use Rattle.std.specs.Prelude.{◌≡◌, take};
 ghost use Rattle.sequences.specs.Lists.{among};
 ghost use Rattle.kept_list.specs.Lent.{lent};
-ghost use Rattle.search_probe.specs.Probed.{terms, lends};
+ghost use Rattle.search_probe.specs.Probed.{lends};
+ghost use Rattle.search_probe.specs.Lent.{lent_terms};
 ghost use Rattle.explain.specs.Turns.{turn_at, seen_by, seen, turn_seen};
 ghost use Rattle.explain.specs.Reasons.{holds, turn_of, reached_fate, searched, turn_fate, probed_block, fated, fated_in, fate_of};
 
+use documents::Terms;
 use number_types::BlockNumber;
 use packing::PackedPosting;
 use search_probe::Answer;
 
 // A block's turn: whether k were kept, the block's score, the bar that it had to reach, which is the factor times the worst kept score,
-// and whether it was skipped.
+// and whether it was skipped. `full` is no flag for `bar`: the definition `turn_at` gives both of every turn.
 #[derive(Clone, Copy)]
 pub struct Turn {
     pub block: BlockNumber,
@@ -82,12 +84,10 @@ fn seen_by(answer: Answer, turn: Turn) -> Option<Turn>
 // are when it comes.
 pub fn see_turn(
     at: u64,
-    query_components: &[u32],
-    query_values: &[f32],
+    query: Terms<'_>,
     k: u64,
     factor: f32,
-    components: &[u32],
-    values: &[f32],
+    terms: Terms<'_>,
     postings: &[u64],
     block_offsets: &[u64],
     block_scores: &[f32],
@@ -98,17 +98,15 @@ pub fn see_turn(
     visits: &mut [u8],
 ) -> Option<Turn>
     ensures { seen result (lends (lent length.new packed.new scores.new) visits.new)
-        ≡ turn_seen k factor (terms query_components.now query_values.now components.now values.now) postings.now
+        ≡ turn_seen k factor (lent_terms query.entry terms.entry) postings.now
         block_offsets.now block_scores.now block_order.now at
         (lends (lent length.old packed.old scores.old) visits.old) }
 {
     let answer = search_probe::probe(
-        query_components,
-        query_values,
+        query,
         k,
         factor,
-        components,
-        values,
+        terms,
         postings,
         block_offsets,
         block_scores,
@@ -187,12 +185,10 @@ fn probe_to(
     first: u64,
     position: u64,
     score: f32,
-    query_components: &[u32],
-    query_values: &[f32],
+    query: Terms<'_>,
     k: u64,
     factor: f32,
-    components: &[u32],
-    values: &[f32],
+    terms: Terms<'_>,
     postings: &[u64],
     length: &mut u64,
     packed: &mut [u64],
@@ -200,18 +196,16 @@ fn probe_to(
     visits: &mut [u8],
 ) -> Fate
     ensures { fated result (lends (lent length.new packed.new scores.new) visits.new)
-        ≡ fated_in k factor (terms query_components.now query_values.now components.now values.now) postings.now first score position
+        ≡ fated_in k factor (lent_terms query.entry terms.entry) postings.now first score position
         (lends (lent length.old packed.old scores.old) visits.old) }
 {
     let part = [first, position];
     let dot = [score];
     let answer = search_probe::probe(
-        query_components,
-        query_values,
+        query,
         k,
         factor,
-        components,
-        values,
+        terms,
         postings,
         &part,
         &dot,
@@ -223,7 +217,7 @@ fn probe_to(
         visits,
     );
     let posting = cells::at(postings, position as usize, 0);
-    let bytes = components.len() + 1;
+    let bytes = terms.components.len() + 1;
     let n = visits.len().min(bytes);
     reached_fate(answer, PackedPosting(posting), &visits[..n])
 }
@@ -278,12 +272,10 @@ fn probed_block(block_offsets: &[u64], turn: Option<Turn>) -> Probed
 pub fn fate_of(
     position: u64,
     turns: u64,
-    query_components: &[u32],
-    query_values: &[f32],
+    query: Terms<'_>,
     k: u64,
     factor: f32,
-    components: &[u32],
-    values: &[f32],
+    terms: Terms<'_>,
     postings: &[u64],
     block_offsets: &[u64],
     block_scores: &[f32],
@@ -294,7 +286,7 @@ pub fn fate_of(
     visits: &mut [u8],
 ) -> Fate
     ensures { fated result (lends (lent length.new packed.new scores.new) visits.new)
-        ≡ fate_of k factor (terms query_components.now query_values.now components.now values.now) postings.now block_offsets.now
+        ≡ fate_of k factor (lent_terms query.entry terms.entry) postings.now block_offsets.now
         block_scores.now block_order.now turns position
         (lends (lent length.old packed.old scores.old) visits.old) }
 {
@@ -304,12 +296,10 @@ pub fn fate_of(
     }
     let turn = see_turn(
         at,
-        query_components,
-        query_values,
+        query,
         k,
         factor,
-        components,
-        values,
+        terms,
         postings,
         block_offsets,
         block_scores,
@@ -327,12 +317,10 @@ pub fn fate_of(
         block.first,
         position,
         block.score,
-        query_components,
-        query_values,
+        query,
         k,
         factor,
-        components,
-        values,
+        terms,
         postings,
         length,
         packed,

@@ -3,26 +3,25 @@
 #![tactic(auto)]
 
 ghost use Rattle.std.specs.Prelude.{◌≡◌};
-ghost use Rattle.search_probe.specs.Probed.{terms};
+ghost use Rattle.search_probe.specs.Lent.{lent_terms};
 ghost use Rattle.explain_small.specs.Short.{turn_short, fate_short};
 
+use documents::Terms;
 use explain::{Fate, Turn};
 
 // The turn with this number, counted from 0: explain::see_turn from the search's beginning, with nothing kept and nothing visited.
 pub fn see_turn(
     at: u64,
-    query_components: &[u32],
-    query_values: &[f32],
+    query: Terms<'_>,
     k: u64,
     factor: f32,
-    components: &[u32],
-    values: &[f32],
+    terms: Terms<'_>,
     postings: &[u64],
     block_offsets: &[u64],
     block_scores: &[f32],
     block_order: &[u64],
 ) -> Option<Turn>
-    ensures { result ≡ turn_short k factor (terms query_components.now query_values.now components.now values.now) postings.now
+    ensures { result ≡ turn_short k factor (lent_terms query.entry terms.entry) postings.now
         block_offsets.now block_scores.now block_order.now at }
 {
     let mut length = 0u64;
@@ -31,12 +30,10 @@ pub fn see_turn(
     let mut visits = [0u8; 64];
     explain::see_turn(
         at,
-        query_components,
-        query_values,
+        query,
         k,
         factor,
-        components,
-        values,
+        terms,
         postings,
         block_offsets,
         block_scores,
@@ -52,18 +49,16 @@ pub fn see_turn(
 pub fn fate_of(
     position: u64,
     turns: u64,
-    query_components: &[u32],
-    query_values: &[f32],
+    query: Terms<'_>,
     k: u64,
     factor: f32,
-    components: &[u32],
-    values: &[f32],
+    terms: Terms<'_>,
     postings: &[u64],
     block_offsets: &[u64],
     block_scores: &[f32],
     block_order: &[u64],
 ) -> Fate
-    ensures { result ≡ fate_short k factor (terms query_components.now query_values.now components.now values.now) postings.now
+    ensures { result ≡ fate_short k factor (lent_terms query.entry terms.entry) postings.now
         block_offsets.now block_scores.now block_order.now turns position }
 {
     let mut length = 0u64;
@@ -73,12 +68,10 @@ pub fn fate_of(
     explain::fate_of(
         position,
         turns,
-        query_components,
-        query_values,
+        query,
         k,
         factor,
-        components,
-        values,
+        terms,
         postings,
         block_offsets,
         block_scores,

@@ -5,6 +5,7 @@ pub mod Key
 pub mod Bound
 pub mod Rounding
 pub mod Count
+pub mod Fitting
 -- laws of rounding: one rounding, one operation, in units of 2 ^ -149
 -- laws of the definitions
 pub mod Lengths

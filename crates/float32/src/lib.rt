@@ -4,10 +4,12 @@
 
 ghost use Rattle.std.specs.Prelude.{◌≡◌, pos};
 ghost use Rattle.std.specs.Float.{binary32};
-ghost use Rattle.std.specs.Float.Ieee.{of_int, to_unsigned};
+ghost use Rattle.std.specs.Float.Ieee.{of_int, to_unsigned, lt};
+ghost use Rattle.sequences.specs.Lists.{every};
 ghost use Rattle.float32.specs.Order.{at_most};
 ghost use Rattle.float32.specs.Key.{key_of, value_of};
 ghost use Rattle.float32.specs.Bound.{in_bound};
+ghost use Rattle.float32.specs.Fitting.{Fitting};
 ghost use Rattle.float32.specs.Rounding.{byte_of};
 ghost use Rattle.float32.specs.Count.{scaled_length};
 ghost use Rattle.float32.specs.Lengths.{without_end};
@@ -45,11 +47,25 @@ pub fn value_of_key(k: u32) -> f32
     }
 }
 
-// Whether a stands at b or before it in IEEE 754's total order, a NaN above all else.
+// Whether a stands at b or before it in IEEE 754's total order, a NaN above all else. Compared by hand, since by `<=` of floats the two zeros
+// are equal and a NaN stands beside no number.
 pub fn at_most(a: f32, b: f32) -> bool
     ensures { result ≡ at_most a b }
 {
     key(a) <= key(b)
+}
+
+// Whether each value is below x. That the values are values of the format is said for whoever relies on it. The loop leaves at no value, so
+// that the compiler can take several at once.
+pub fn all_below(values: &[f32], x: f32) -> bool
+    ensures answer { result ≡ every (λ y. lt y x) values.now }
+    ensures fits { Fitting x values.now }
+{
+    let mut ok = true;
+    for &value in values {
+        ok &= value < x;
+    }
+    ok
 }
 
 // Whether x is finite and at most 2^32 in magnitude: neither a NaN nor an infinity is.

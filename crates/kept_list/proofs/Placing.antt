@@ -1,18 +1,17 @@
 -- The place of a new entry, looked for from the end: past scores that are below its own, and past entries that are worse.
 use Prim.Native.Nat.{ℕ, zero, suc, ◌+◌, ◌-◌, ◌≤◌, ◌<◌}
 use native.Mathlib.Omega.{arith}
-use native.Mathlib.Numerals.{add-one}
 use mathlib.Core.Path.{◌≡◌, refl, sym, ap, ◌∙◌}
 use mathlib.Core.Logic.{◌⊎◌, inl, inr}
-use mathlib.Core.Bool.{Bool, true, false, ◌&&◌, and-true}
+use mathlib.Core.Bool.{true, false}
 use mathlib.Core.List.{List, [], ◌∷◌, ◌++◌}
 use lib.ListN.{length, get_or, set, take, drop, length-set}
-use lib.Seq.{take-suc, take_all, get_or-take, get_or-drop}
-use lib.Dec.{T}
-use lib.Ieee.{Float, nan, binary32, fits, lt}
+use lib.Seq.{get_or-take, get_or-drop}
+use lib.Ieee.{Float, nan, lt}
 use Rattle.sequences.specs.Lists.{every}
-use Rattle.sequences.specs.Laws.Lists.{le-or-lt, every-each, every_append, part_length}
+use Rattle.sequences.specs.Laws.Lists.{le-or-lt, every-each, part_length}
 use Rattle.sequences.specs.Laws.Each.{each_at}
+use Rattle.float32.specs.Fitting.{Fitting}
 use Rattle.kept_list.specs.declared.Scored.{Scored}
 use Rattle.kept_list.specs.Keep.{beats, insert_after}
 use Rattle.kept_list.specs.Entry.{scored, better}
@@ -20,22 +19,8 @@ use Rattle.kept_list.specs.Laws.Entry.{better-of-lt}
 use Rattle.kept_list.specs.Laws.Pushing.{insert-at}
 use Rattle.kept_list.specs.Lent.{lent, entry_at, entries, inserted}
 use Rattle.kept_list.specs.Laws.Laid.{length-beside, entry-at}
-use Rattle.kept_list.specs.Inserting.{Fitting, moved_down, Worse, Found}
+use Rattle.kept_list.specs.Inserting.{moved_down, Worse, Found}
 use Rattle.kept_list.proofs.Laying.{moved_length, moved-above, moved_none, moved-one, moved_twice, laid_in_lem, inserted-laid}
-
--- ---- one test of several scores
-module _ {A : Type 0} (p : A → Bool) (l : List A) (d : A) where
-  pub every_more : (ok : Bool) (i : ℕ) → i < length l → ok ≡ every p (take i l) → (ok && p (get_or l i d)) ≡ every p (take (i + 1) l)
-  every_more ok i h e = rw (add-one i, take-suc l i d h, every_append p (take i l) (get_or l i d ∷ []), and-true (p (get_or l i d)), e)
-
-  pub every-all : (ok : Bool) (i : ℕ) → length l ≤ i → ok ≡ every p (take i l) → ok ≡ every p l
-  every-all ok i h e = e ∙ ap (every p) (take_all i l h)
-
--- where there is no score, a NaN is read
-pub all_fit : (xs : List Float) → (0 < length xs → (k : ℕ) → T (fits binary32 (get_or xs k nan))) → (k : ℕ) → T (fits binary32 (get_or xs k nan))
-unfolding fits
-all_fit [] h k = tt
-all_fit (x ∷ xs) h k = h (omega arith) k
 
 -- the entries of which a part of the scores is below are worse
 part-worse : (e : Scored) (ps : List ℕ) (xs : List Float) (a i j : ℕ) → a ≤ j → j < i → i ≤ length xs → every (λ y. lt y e.score) (take (i - a) (drop a xs)) ≡ true

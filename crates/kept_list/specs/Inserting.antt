@@ -1,15 +1,9 @@
 -- A new entry goes up past the worse ones right above a place, and each of these goes down by one.
-use Rattle.std.specs.Prelude.{ℕ, suc, ◌≤◌, ◌<◌, ◌≡◌, true, false, List, ◌++◌, get_or, take, drop, T, Float}
+use Rattle.std.specs.Prelude.{ℕ, suc, ◌≤◌, ◌<◌, ◌≡◌, true, false, List, ◌++◌, take, drop, Float}
 use Rattle.std.proofs.Math.Seq.{slice}
-use Rattle.std.specs.Float.{nan, binary32}
-use Rattle.std.specs.Float.Ieee.{fits}
 use Rattle.kept_list.specs.declared.Scored.{Scored}
 use Rattle.kept_list.specs.Entry.{better}
 use Rattle.kept_list.specs.Lent.{entry_at}
-
--- scores that an f32 holds
-abbrev pub Fitting : Float → List Float → Type 0
-Fitting x xs = T (fits binary32 x) × ((k : ℕ) → T (fits binary32 (get_or xs k nan)))
 
 -- what stands from the place r up to `at` is one lower; at r there is still what was there
 unfoldable pub moved_down : {B : Type 0} → ℕ → ℕ → List B → List B

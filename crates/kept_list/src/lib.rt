@@ -3,12 +3,10 @@
 #![tactic(auto)]
 
 ghost use Rattle.std.specs.Prelude.{◌≡◌, ◌≤◌, ◌<◌, ◌+◌, ◌-◌, length as len};
-ghost use Rattle.std.specs.Float.Ieee.{lt};
-ghost use Rattle.sequences.specs.Lists.{every};
 ghost use Rattle.kept_list.specs.Entry.{scored, better};
 ghost use Rattle.kept_list.specs.Lent.{lent, inserted, settled};
 ghost use Rattle.kept_list.specs.Place.{Placed};
-ghost use Rattle.kept_list.specs.Inserting.{Fitting, Worse, moved_down, Found};
+ghost use Rattle.kept_list.specs.Inserting.{Worse, moved_down, Found};
 
 // A range found, with its score.
 #[derive(Clone, Copy)]
@@ -24,7 +22,8 @@ impl Scored {
         Self { packed, score }
     }
 
-    // Whether this one stands before the other: greater score first by total order; equal scores: smaller packed number first.
+    // Whether this one stands before the other: greater score first by total order; equal scores: smaller packed number first. Compared by
+    // hand, since a derived order would go by the fields as they stand, and floats have no total order of their own.
     pub fn better(self, other: Scored) -> bool
         ensures { result ≡ better self other }
     {
@@ -32,19 +31,6 @@ impl Scored {
         let y = float32::key(other.score);
         (y < x) | ((x == y) & (self.packed < other.packed))
     }
-}
-
-// Whether each score is below x: an entry with score x is better than one with any of them. That the scores are values of the format is
-// said for whoever relies on it. The loop leaves at no score, so that the compiler can take several at once.
-fn all_below(scores: &[f32], x: f32) -> bool
-    ensures answer { result ≡ every (λ y. lt y x) scores.now }
-    ensures fits { Fitting x scores.now }
-{
-    let mut ok = true;
-    for &score in scores {
-        ok &= score < x;
-    }
-    ok
 }
 
 // The N values right above a place go down by one. How many these are is known to the compiler, so that it moves them together.
@@ -68,7 +54,7 @@ fn pass<const N: usize>(at: usize, packed: &mut [u64], scores: &mut [f32], e: Sc
     // no range: the place moves by N, and where it ends is what is asked for
     while N <= i {
         let top = i - N;
-        if !all_below(&scores[top..i], e.score) {
+        if !float32::all_below(&scores[top..i], e.score) {
             return i;
         }
         down::<u64, N>(i, packed);

@@ -6,6 +6,8 @@ ghost use Rattle.build_meaning.specs.Building.{outputs, scratches, lent, builds}
 ghost use Rattle.c_build.specs.Chosen.{blocking_of, summarization_of};
 ghost use Rattle.c_build.specs.Shown.{shown_built, seen_built};
 
+use documents::Documents;
+
 // Builds a posting list: posting_list::build with the strategies that the numbers choose. The last five are left with the sizes of
 // the list, and with 0 where the build is refused.
 #[unsafe(no_mangle)]
@@ -72,9 +74,11 @@ pub extern "C" fn merino_build(
         dimension,
         cut,
         kept,
-        offsets,
-        components,
-        values,
+        Documents {
+            offsets,
+            components,
+            values,
+        },
         ids,
         centroids,
         postings,

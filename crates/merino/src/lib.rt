@@ -15,7 +15,9 @@ ghost use Rattle.search.specs.Searched.{question};
 ghost use Rattle.c_search.specs.Found.{shown, seen};
 ghost use Rattle.merino.specs.Pushed.{crossed, seen as seen_pushed};
 
+use documents::Terms;
 use kept_list::Scored;
+use sparse_scores::summaries::Summaries;
 
 // Pushes an entry onto the kept list of `length` entries in `packed` and `scores`: kept_push::push.
 #[unsafe(no_mangle)]
@@ -79,20 +81,23 @@ pub extern "C" fn merino_search(
 {
     c_search::find(
         by_score,
-        query_components,
-        query_values,
+        Terms {
+            components: query_components,
+            values: query_values,
+        },
         k,
         factor,
-        components,
-        values,
+        Terms { components, values },
         postings,
         block_offsets,
-        summary_components,
-        component_offsets,
-        summary_ids,
-        codes,
-        minimums,
-        steps,
+        Summaries {
+            summary_components,
+            component_offsets,
+            summary_ids,
+            codes,
+            minimums,
+            steps,
+        },
         length,
         packed,
         scores,

@@ -2,12 +2,13 @@
 #![tactic(auto)]
 
 ghost use Rattle.std.specs.Prelude.{◌≡◌};
-ghost use Rattle.documents.specs.Documents.{documents};
+ghost use Rattle.documents.specs.Lent.{lent as lent_documents};
 ghost use Rattle.build_meaning.specs.Built.{input};
 ghost use Rattle.build_meaning.specs.Building.{outputs, scratches, lent, leaves, builds};
 
 use build_meaning::BuiltSizes;
 use configuration::{BlockingStrategy, SummarizationStrategy};
+use documents::Documents;
 use refusal::Refusal;
 
 // Builds a posting list from the listed documents. The result stands in front of the eight output buffers, past which nothing changes;
@@ -18,9 +19,7 @@ pub fn build(
     dimension: u64,
     blocking: BlockingStrategy,
     summarization: SummarizationStrategy,
-    offsets: &[u64],
-    components: &[u32],
-    values: &[f32],
+    documents: Documents<'_>,
     ids: &[u64],
     centroids: &[u64],
     postings: &mut [u64],
@@ -46,22 +45,20 @@ pub fn build(
     ensures { leaves result (lent (outputs postings.new block_offsets.new summary_components.new component_offsets.new summary_ids.new
         codes.new minimums.new steps.new) (scratches order.new blocks.new sorted.new known.new taken.new
         counts.new starts.new slots.new weights.new sums.new keys.new))
-        ≡ builds (input dimension blocking summarization (documents offsets.now components.now values.now) ids.now centroids.now)
+        ≡ builds (input dimension blocking summarization (lent_documents documents.entry) ids.now centroids.now)
         (lent (outputs postings.old block_offsets.old summary_components.old component_offsets.old summary_ids.old codes.old
         minimums.old steps.old) (scratches order.old blocks.old sorted.old known.old taken.old counts.old
         starts.old slots.old weights.old sums.old keys.old)) }
 {
     let made = build_blocks::make(
-        dimension, blocking, offsets, components, values, ids, centroids, order, blocks, sorted,
-        known, taken, counts, starts, slots, weights, sums, keys,
+        dimension, blocking, documents, ids, centroids, order, blocks, sorted, known, taken,
+        counts, starts, slots, weights, sums, keys,
     );
     build_result::finish(
         made,
         dimension,
         summarization,
-        offsets,
-        components,
-        values,
+        documents,
         ids.len(),
         postings,
         block_offsets,

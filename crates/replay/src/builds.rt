@@ -12,6 +12,7 @@ ghost use Rattle.replay_words.specs.Words.{slice_at};
 ghost use Rattle.replay.specs.Case.{blocking_in, summarization_in, odd_key, used, agreed, agrees};
 
 use configuration::{BlockingStrategy, SummarizationStrategy};
+use documents::Documents;
 use replay_words::{float, long, word};
 
 // How the recorded build cuts its list into blocks.
@@ -57,9 +58,11 @@ fn builds_with(
         dimension,
         blocking,
         summarization,
-        offsets,
-        components,
-        values,
+        Documents {
+            offsets,
+            components,
+            values,
+        },
         ids,
         centroids,
         &mut postings,

@@ -11,8 +11,10 @@ ghost use Rattle.search.specs.Searched.{question};
 ghost use Rattle.c_search.specs.Found.{seen};
 ghost use Rattle.replay_search.specs.Case.{question_from, lent_in, counts_held, buffers_held, found_as, found_from, searches_agree};
 
+use documents::Terms;
 use replay_expected::same;
 use replay_words::{slice_of, word, words_of};
+use sparse_scores::summaries::Summaries;
 
 // Whether a search is accepted and counts as recorded.
 fn counts(w: &[u32], number: u64, length: u64, evaluated: u64, skipped: u64) -> bool
@@ -79,20 +81,23 @@ fn searches_with(
     let mut skipped = 0;
     let number = c_search::find(
         by_score,
-        query_components,
-        query_values,
+        Terms {
+            components: query_components,
+            values: query_values,
+        },
         k,
         factor,
-        components,
-        values,
+        Terms { components, values },
         postings,
         block_offsets,
-        summary_components,
-        component_offsets,
-        summary_ids,
-        codes,
-        minimums,
-        steps,
+        Summaries {
+            summary_components,
+            component_offsets,
+            summary_ids,
+            codes,
+            minimums,
+            steps,
+        },
         &mut length,
         packed,
         scores,

@@ -8,18 +8,21 @@ ghost use Rattle.std.specs.Float.{nan};
 ghost use Rattle.blocking.specs.Limits.{block_limit};
 ghost use Rattle.refusal.specs.declared.Refusal.TheVariants.{NothingToKeep, WrongQuery, WrongDocuments, MalformedList, WrongKeptList, BufferTooShort};
 ghost use Rattle.refusal.specs.First.{◌gives◌, first_of};
-ghost use Rattle.documents.specs.Documents.{paired};
+ghost use Rattle.documents.specs.Lent.{terms_lent};
 ghost use Rattle.kept_list.specs.Lent.{lent};
-ghost use Rattle.sparse_scores.specs.Layout.{arrays};
 ghost use Rattle.sparse_scores.specs.Scores.{scores_of, put_in};
-ghost use Rattle.search_probe.specs.Probed.{terms, lends, left};
+ghost use Rattle.sparse_scores.specs.Lent.{layout_lent};
+ghost use Rattle.search_probe.specs.Probed.{lends, left};
+ghost use Rattle.search_probe.specs.Lent.{lent_terms};
 ghost use Rattle.search.specs.Order.{by_score};
 ghost use Rattle.search.specs.Searched.{question, tests, leaves, leaves_in_order, searched, searched_in_order};
 ghost use Rattle.search.specs.Numbers.{numbers_left};
 
+use documents::Terms;
 use order::order_by_score;
 use refusal::Refusal;
 use search_probe::Answer;
+use sparse_scores::summaries::Summaries;
 
 // The first fault in the order of the refusals: 11, 10, 6, 9, 12, 4.
 fn judge(
@@ -64,47 +67,36 @@ fn has_room(k: u64, packed: &[u64], scores: &[f32], count: usize, bytes: usize, 
 
 // The verdict on all that a search is given. Each test is one or a few passes without an early exit.
 fn admit(
-    query_components: &[u32],
-    query_values: &[f32],
+    query: Terms<'_>,
     k: u64,
-    components: &[u32],
-    values: &[f32],
+    terms: Terms<'_>,
     postings: &[u64],
     block_offsets: &[u64],
-    summary_components: &[u32],
-    component_offsets: &[u64],
-    summary_ids: &[u16],
-    codes: &[u8],
-    minimums: &[f32],
-    steps: &[f32],
+    summaries: Summaries<'_>,
     length: u64,
     packed: &[u64],
     scores: &[f32],
     visits: &[u8],
     room: bool,
 ) -> Result<(), Refusal>
-    ensures { result ≡ first_of (tests (question k nan (terms query_components.now query_values.now components.now
-        values.now) postings.now block_offsets.now (arrays summary_components.now component_offsets.now
-        summary_ids.now codes.now minimums.now steps.now)) (lends (lent length packed.now scores.now)
-        visits.now) room) }
+    ensures { result ≡ first_of (tests (question k nan (lent_terms query.entry terms.entry) postings.now block_offsets.now (layout_lent
+        summaries.entry)) (lends (lent length packed.now scores.now) visits.now) room) }
 {
-    let query = document_checks::slices_hold(query_components, query_values);
-    let list = search_checks::is_well_formed(
-        postings.len() as u64,
-        block_offsets,
-        summary_components,
-        component_offsets,
-        summary_ids,
-        codes,
-        minimums,
-        steps,
-    );
+    let query_holds = document_checks::slices_hold(query.components, query.values);
+    let list = search_checks::is_well_formed(postings.len() as u64, block_offsets, summaries);
     let kept = kept_push::is_well_kept(k, length, packed, scores);
-    let roomy = has_room(k, packed, scores, components.len(), visits.len(), room);
+    let roomy = has_room(
+        k,
+        packed,
+        scores,
+        terms.components.len(),
+        visits.len(),
+        room,
+    );
     judge(
         k == 0,
-        query,
-        components.len() == values.len(),
+        query_holds,
+        terms.components.len() == terms.values.len(),
         list,
         kept,
         roomy,
@@ -120,20 +112,13 @@ fn admit(
 // the kept list and the marks stand then as after the postings before it. `block_scores` is left with the score of each block at its front.
 // Unless it was refused, no score of a block or of a kept entry is a NaN.
 pub fn search(
-    query_components: &[u32],
-    query_values: &[f32],
+    query: Terms<'_>,
     k: u64,
     factor: f32,
-    components: &[u32],
-    values: &[f32],
+    terms: Terms<'_>,
     postings: &[u64],
     block_offsets: &[u64],
-    summary_components: &[u32],
-    component_offsets: &[u64],
-    summary_ids: &[u16],
-    codes: &[u8],
-    minimums: &[f32],
-    steps: &[f32],
+    summaries: Summaries<'_>,
     length: &mut u64,
     packed: &mut [u64],
     scores: &mut [f32],
@@ -141,27 +126,18 @@ pub fn search(
     block_scores: &mut [f32],
 ) -> Answer
     ensures leaves { leaves (left result (lends (lent length.new packed.new scores.new) visits.new))
-        block_scores.new ≡ searched (question k factor (terms query_components.now query_values.now components.now
-        values.now) postings.now block_offsets.now (arrays summary_components.now component_offsets.now
-        summary_ids.now codes.now minimums.now steps.now)) (lends (lent length.old packed.old
-        scores.old) visits.old) block_scores.old }
-    ensures numbers { numbers_left result (len minimums.now) block_scores.new (lent length.new packed.new scores.new) ≡ true }
+        block_scores.new ≡ searched (question k factor (lent_terms query.entry terms.entry) postings.now block_offsets.now (layout_lent
+        summaries.entry)) (lends (lent length.old packed.old scores.old) visits.old) block_scores.old }
+    ensures numbers { numbers_left result (len summaries.entry.minimums.now) block_scores.new (lent length.new packed.new scores.new) ≡ true }
 {
-    let n = minimums.len();
+    let n = summaries.minimums.len();
     let verdict = admit(
-        query_components,
-        query_values,
+        query,
         k,
-        components,
-        values,
+        terms,
         postings,
         block_offsets,
-        summary_components,
-        component_offsets,
-        summary_ids,
-        codes,
-        minimums,
-        steps,
+        summaries,
         *length,
         packed,
         scores,
@@ -171,24 +147,12 @@ pub fn search(
     if let Err(reason) = verdict {
         return Answer::Refused(reason);
     }
-    sparse_scores::distances(
-        query_components,
-        query_values,
-        summary_components,
-        component_offsets,
-        summary_ids,
-        codes,
-        minimums,
-        steps,
-        block_scores,
-    );
+    sparse_scores::distances(query, summaries, block_scores);
     search_probe::probe(
-        query_components,
-        query_values,
+        query,
         k,
         factor,
-        components,
-        values,
+        terms,
         postings,
         block_offsets,
         &block_scores[..n],
@@ -203,58 +167,33 @@ pub fn search(
 
 // The score of each block, and the blocks by their scores.
 fn score_and_order(
-    query_components: &[u32],
-    query_values: &[f32],
-    summary_components: &[u32],
-    component_offsets: &[u64],
-    summary_ids: &[u16],
-    codes: &[u8],
-    minimums: &[f32],
-    steps: &[f32],
+    query: Terms<'_>,
+    summaries: Summaries<'_>,
     block_scores: &mut [f32],
     block_order: &mut [u64],
 )
-    requires minimums_bound { len minimums.now ≤ block_limit }
-    requires minimums_value { len minimums.now ≡ len steps.now }
-    requires minimums_bound_2 { len minimums.now ≤ len block_scores.old }
-    requires minimums_bound_3 { len minimums.now ≤ len block_order.old }
-    ensures block_scores { block_scores.new ≡ put_in (scores_of (arrays summary_components.now component_offsets.now summary_ids.now
-        codes.now minimums.now steps.now) (paired query_components.now query_values.now)) block_scores.old }
-    ensures block_order { block_order.new ≡ put_in (by_score (scores_of (arrays summary_components.now component_offsets.now summary_ids.now
-        codes.now minimums.now steps.now) (paired query_components.now query_values.now))) block_order.old }
+    requires minimums_bound { len summaries.minimums.now ≤ block_limit }
+    requires minimums_value { len summaries.minimums.now ≡ len summaries.steps.now }
+    requires minimums_bound_2 { len summaries.minimums.now ≤ len block_scores.old }
+    requires minimums_bound_3 { len summaries.minimums.now ≤ len block_order.old }
+    ensures block_scores { block_scores.new ≡ put_in (scores_of (layout_lent summaries.entry) (terms_lent query.entry)) block_scores.old }
+    ensures block_order { block_order.new ≡ put_in (by_score (scores_of (layout_lent summaries.entry) (terms_lent query.entry))) block_order.old }
 {
-    let n = minimums.len();
-    sparse_scores::distances(
-        query_components,
-        query_values,
-        summary_components,
-        component_offsets,
-        summary_ids,
-        codes,
-        minimums,
-        steps,
-        block_scores,
-    );
+    let n = summaries.minimums.len();
+    sparse_scores::distances(query, summaries, block_scores);
     order_by_score(&block_scores[..n], &mut block_order[..n]);
 }
 
 // The same with the blocks of greater score first, and of equal ones the smaller number. `block_order` is left with the block numbers in the
 // order of their turns at its front.
 pub fn sort_and_search(
-    query_components: &[u32],
-    query_values: &[f32],
+    query: Terms<'_>,
     k: u64,
     factor: f32,
-    components: &[u32],
-    values: &[f32],
+    terms: Terms<'_>,
     postings: &[u64],
     block_offsets: &[u64],
-    summary_components: &[u32],
-    component_offsets: &[u64],
-    summary_ids: &[u16],
-    codes: &[u8],
-    minimums: &[f32],
-    steps: &[f32],
+    summaries: Summaries<'_>,
     length: &mut u64,
     packed: &mut [u64],
     scores: &mut [f32],
@@ -264,27 +203,19 @@ pub fn sort_and_search(
 ) -> Answer
     ensures leaves { leaves_in_order (left result (lends (lent length.new packed.new scores.new) visits.new))
         block_scores.new block_order.new
-        ≡ searched_in_order (question k factor (terms query_components.now query_values.now components.now values.now)
-        postings.now block_offsets.now (arrays summary_components.now component_offsets.now summary_ids.now
-        codes.now minimums.now steps.now)) (lends (lent length.old packed.old scores.old)
+        ≡ searched_in_order (question k factor (lent_terms query.entry terms.entry)
+        postings.now block_offsets.now (layout_lent summaries.entry)) (lends (lent length.old packed.old scores.old)
         visits.old) block_scores.old block_order.old }
-    ensures numbers { numbers_left result (len minimums.now) block_scores.new (lent length.new packed.new scores.new) ≡ true }
+    ensures numbers { numbers_left result (len summaries.entry.minimums.now) block_scores.new (lent length.new packed.new scores.new) ≡ true }
 {
-    let n = minimums.len();
+    let n = summaries.minimums.len();
     let verdict = admit(
-        query_components,
-        query_values,
+        query,
         k,
-        components,
-        values,
+        terms,
         postings,
         block_offsets,
-        summary_components,
-        component_offsets,
-        summary_ids,
-        codes,
-        minimums,
-        steps,
+        summaries,
         *length,
         packed,
         scores,
@@ -294,25 +225,12 @@ pub fn sort_and_search(
     if let Err(reason) = verdict {
         return Answer::Refused(reason);
     }
-    score_and_order(
-        query_components,
-        query_values,
-        summary_components,
-        component_offsets,
-        summary_ids,
-        codes,
-        minimums,
-        steps,
-        block_scores,
-        block_order,
-    );
+    score_and_order(query, summaries, block_scores, block_order);
     search_probe::probe(
-        query_components,
-        query_values,
+        query,
         k,
         factor,
-        components,
-        values,
+        terms,
         postings,
         block_offsets,
         &block_scores[..n],

@@ -4,21 +4,19 @@
 
 ghost use Rattle.std.specs.Prelude.{◌≡◌};
 ghost use Rattle.kept_list.specs.Lent.{lent};
-ghost use Rattle.search_postings.specs.Ranges.{through_table};
 ghost use Rattle.search_postings.specs.Postings.{lends, turned, counts as counted};
+ghost use Rattle.search_postings.specs.Lent.{through_lent};
 ghost use Rattle.search_blocks.specs.Turns.{worst_held, listed, held_turn, held_sweep};
 
+use documents::Terms;
 use search_held::Block;
+use search_page::Laid;
 use search_postings::{Counts, Stop};
 
 // A block's turn. The test is made with the worst of what is kept now; a skipped block marks nothing.
 fn take_turn(
-    table: &[f32; 32768],
-    sieve: &[u8; 4096],
-    query_components: &[u32],
-    query_values: &[f32],
-    components: &[u32],
-    values: &[f32],
+    laid: Laid<'_>,
+    terms: Terms<'_>,
     k: u64,
     factor: f32,
     worst: f32,
@@ -32,7 +30,7 @@ fn take_turn(
 ) -> Result<Counts, Stop>
     requires { worst ≡ worst_held length.old scores.old }
     ensures { turned result (lends (lent length.new packed.new scores.new) visits.new)
-        ≡ held_turn k factor (through_table table.now sieve.now query_components.now query_values.now components.now values.now)
+        ≡ held_turn k factor (through_lent laid.entry.table.now laid.entry.sieve.now laid.entry.query terms.entry)
         postings.now block counts (lends (lent length.old packed.old scores.old) visits.old) }
 {
     let n = *length;
@@ -44,21 +42,7 @@ fn take_turn(
     }
     let first = block.start as usize;
     search_postings::probe_postings(
-        table,
-        sieve,
-        query_components,
-        query_values,
-        components,
-        values,
-        k,
-        postings,
-        first,
-        block.end,
-        length,
-        packed,
-        scores,
-        visits,
-        counts,
+        laid, terms, k, postings, first, block.end, length, packed, scores, visits, counts,
     )
 }
 
@@ -66,12 +50,8 @@ fn take_turn(
 // counts after them, or the stop at a posting. It takes time in proportion to the terms of the postings evaluated, and a few steps for
 // each posting passed over and each block skipped.
 pub fn sweep(
-    table: &[f32; 32768],
-    sieve: &[u8; 4096],
-    query_components: &[u32],
-    query_values: &[f32],
-    components: &[u32],
-    values: &[f32],
+    laid: Laid<'_>,
+    terms: Terms<'_>,
     k: u64,
     factor: f32,
     postings: &[u64],
@@ -85,7 +65,7 @@ pub fn sweep(
     visits: &mut [u8],
 ) -> Result<Counts, Stop>
     ensures { turned result (lends (lent length.new packed.new scores.new) visits.new)
-        ≡ held_sweep k factor (through_table table.now sieve.now query_components.now query_values.now components.now values.now)
+        ≡ held_sweep k factor (through_lent laid.entry.table.now laid.entry.sieve.now laid.entry.query terms.entry)
         postings.now block_offsets.now block_scores.now (listed block_order.now turns) (counted 0 0)
         (lends (lent length.old packed.old scores.old) visits.old) }
 {
@@ -97,22 +77,7 @@ pub fn sweep(
     for i in 0..turns {
         let b = search_held::block_at(block_offsets, block_scores, block_order, i);
         c = take_turn(
-            table,
-            sieve,
-            query_components,
-            query_values,
-            components,
-            values,
-            k,
-            factor,
-            worst,
-            postings,
-            b,
-            length,
-            packed,
-            scores,
-            visits,
-            c,
+            laid, terms, k, factor, worst, postings, b, length, packed, scores, visits, c,
         )?;
         worst = search_held::worst_kept(*length, scores);
     }

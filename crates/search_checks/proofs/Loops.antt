@@ -13,7 +13,7 @@ use mir.Val.{bool_byte}
 use borrow.Author.Tests.{ltb-true, ltb-false, le-ltb, le-leb, lt-leb}
 use Rattle.float32.specs.Laws.BoundLaws.{in-bound-tests}
 use Rattle.quantizing.specs.Quantizing.{step_allowed}
-use Rattle.sequences.specs.Lists.{every, never_falls, strictly_rise}
+use Rattle.sequences.specs.Lists.{every, strictly_rise}
 use Rattle.sequences.specs.Laws.Lists.{part_length}
 use Rattle.search_checks.specs.Counting.{fall, falls, seam_at, seams}
 use Rattle.search_checks.specs.Laws.Counting.{falls-over, falls-few}
@@ -40,11 +40,6 @@ module _ {A : Type 0} (xs : List A) (i : ℕ) (d : A) (low : 1 ≤ i) where
   pub few-left : length xs ≤ i → length (drop (i - 1) xs) ≤ 1
   few-left h = simp length-drop (omega arith)
 
-never-short : (os : List ℕ) → length os ≤ 1 → never_falls os ≡ true
-never-short [] h = refl
-never-short (a ∷ []) h = refl
-never-short (a ∷ b ∷ os) h = let z : ⊥ = omega arith in absurd z
-
 rise-short : (os : List ℕ) → length os ≤ 1 → strictly_rise os ≡ true
 rise-short [] h = refl
 rise-short (a ∷ []) h = refl
@@ -63,12 +58,6 @@ seams-short ids (a ∷ []) h = refl
 seams-short ids (a ∷ b ∷ os) h = omega arith
 
 module _ (ok : Bool) (os : List ℕ) (i : ℕ) (low : 1 ≤ i) where
-  pub never-step : i < length os → ((ok && leb (get_or os (i - 1) 0) (get_or os i 0)) && never_falls (drop (i + 1 - 1) os)) ≡ (ok && never_falls (drop (i - 1) os))
-  never-step h = rw (pair-at os i 0 low h, next-at os i 0 low h) (and_assoc ok _ _)
-
-  pub never-end : (r : Bool) → length os ≤ i → (ok && never_falls (drop (i - 1) os)) ≡ r → ok ≡ r
-  never-end r h e = sym (and-true ok) ∙ rw (never-short (drop (i - 1) os) (few-left os i 0 low h)) at e
-
   pub rise-step : i < length os → ((ok && ltb (get_or os (i - 1) 0) (get_or os i 0)) && strictly_rise (drop (i + 1 - 1) os)) ≡ (ok && strictly_rise (drop (i - 1) os))
   rise-step h = rw (pair-at os i 0 low h, next-at os i 0 low h) (and_assoc ok _ _)
 

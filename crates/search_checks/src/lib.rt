@@ -2,27 +2,17 @@
 #![tactic(auto)]
 
 ghost use Rattle.std.specs.Prelude.{◌≡◌, ◌≤◌, ltb, length as len};
-ghost use Rattle.sequences.specs.Lists.{every, never_falls, strictly_rise};
+ghost use Rattle.sequences.specs.Lists.{every, strictly_rise};
 ghost use Rattle.quantizing.specs.Quantizing.{minimum_allowed, step_allowed};
-ghost use Rattle.sparse_scores.specs.Layout.{arrays};
 ghost use Rattle.sparse_scores.specs.WellFormed.{blocks_hold, offsets_hold, well_formed};
+ghost use Rattle.sparse_scores.specs.Lent.{layout_lent};
 ghost use Rattle.search_checks.specs.Counting.{falls, seam_at, seams, ids_counted};
 
 use blocking::limits::{list_too_long, too_many_blocks};
+use sparse_scores::summaries::Summaries;
 
-// Whether no offset lies below the one before it. This loop and those like it leave at no element, so that the compiler can take several at
-// once.
-fn never_fall(component_offsets: &[u64]) -> bool
-    ensures { result ≡ never_falls component_offsets.now }
-{
-    let mut ok = true;
-    for i in 1..component_offsets.len() {
-        ok &= component_offsets[i - 1] <= component_offsets[i];
-    }
-    ok
-}
-
-// Whether each component lies above the one before it.
+// Whether each component lies above the one before it. This loop and those like it leave at no element, so that the compiler can take
+// several at once.
 fn strictly_rise(summary_components: &[u32]) -> bool
     ensures { result ≡ strictly_rise summary_components.now }
 {
@@ -153,7 +143,7 @@ fn blocks_hold(postings: u64, blocks: u64, component_offsets: &[u64]) -> bool
     if last as u64 != blocks {
         return false;
     }
-    never_fall(component_offsets) & (component_offsets[last] <= postings)
+    document_checks::never_falls(component_offsets) & (component_offsets[last] <= postings)
 }
 
 // Whether component offsets start at 0, never fall, and end at the number of entries.
@@ -166,7 +156,7 @@ fn offsets_hold(component_offsets: &[u64], entries: u64) -> bool
     }
     let last = n - 1;
     (component_offsets[0] == 0)
-        & (never_fall(component_offsets) & (component_offsets[last] == entries))
+        & (document_checks::never_falls(component_offsets) & (component_offsets[last] == entries))
 }
 
 // Whether summary ids are below the number of summaries, and only a component's first one fails to lie above the one before it:
@@ -179,30 +169,21 @@ fn ids_hold(component_offsets: &[u64], summary_ids: &[u16], summaries: u64) -> b
 }
 
 // Whether a list may be searched: all that refusal 9 asks of it. Its cost is linear in the list's summaries.
-pub fn is_well_formed(
-    postings: u64,
-    block_offsets: &[u64],
-    summary_components: &[u32],
-    component_offsets: &[u64],
-    summary_ids: &[u16],
-    codes: &[u8],
-    minimums: &[f32],
-    steps: &[f32],
-) -> bool
-    ensures { result ≡ well_formed postings block_offsets.now (arrays summary_components.now component_offsets.now summary_ids.now
-        codes.now minimums.now steps.now) }
+pub fn is_well_formed(postings: u64, block_offsets: &[u64], summaries: Summaries<'_>) -> bool
+    ensures { result ≡ well_formed postings block_offsets.now (layout_lent summaries.entry) }
 {
-    let summaries = minimums.len() as u64;
-    let entries = summary_ids.len() as u64;
-    let even = (component_offsets.len() == summary_components.len() + 1)
-        & ((summary_ids.len() == codes.len()) & (minimums.len() == steps.len()));
-    let many = too_many_blocks(summaries);
+    let count = summaries.minimums.len() as u64;
+    let entries = summaries.summary_ids.len() as u64;
+    let even = (summaries.component_offsets.len() == summaries.summary_components.len() + 1)
+        & ((summaries.summary_ids.len() == summaries.codes.len())
+            & (summaries.minimums.len() == summaries.steps.len()));
+    let many = too_many_blocks(count);
     let long = list_too_long(postings);
-    let blocks = blocks_hold(postings, summaries, block_offsets);
-    let risen = strictly_rise(summary_components);
-    let offset = offsets_hold(component_offsets, entries);
-    let id = ids_hold(component_offsets, summary_ids, summaries);
-    let low = minimums_hold(minimums);
-    let step = steps_hold(steps);
+    let blocks = blocks_hold(postings, count, block_offsets);
+    let risen = strictly_rise(summaries.summary_components);
+    let offset = offsets_hold(summaries.component_offsets, entries);
+    let id = ids_hold(summaries.component_offsets, summaries.summary_ids, count);
+    let low = minimums_hold(summaries.minimums);
+    let step = steps_hold(summaries.steps);
     (!many & !long) & (blocks & (even & (risen & (offset & (id & (low & step))))))
 }

@@ -15,9 +15,10 @@ use Rattle.sequences.specs.Lists.{every}
 use Rattle.sequences.specs.Laws.Lists.{both}
 use Rattle.documents.specs.Checks.{slices_hold, slices_hold_below}
 use Rattle.documents.specs.Laws.Documents.{slices-even, slices-below, slices-below-none, slices-below-last}
+use Rattle.documents.specs.Sought.{sought}
 use Rattle.search_page.specs.declared.Scores.{Scores}
 use Rattle.search_page.specs.declared.Sum.{Sum}
-use Rattle.search_page.specs.Through.{laying, laid_sum, marking, sum_of, belows, sought, looked, stepped, through, last_fits, read_through, read_two}
+use Rattle.search_page.specs.Through.{laying, laid_sum, marking, sum_of, looked, stepped, through, last_fits, read_through, read_two}
 
 -- ---- the sieve
 pub marking_step : (sieve qs : List ℕ) (i : ℕ) → i < length qs → marking (set sieve (get_or qs i 0 % 4096) 1) (drop (i + 1) qs) ≡ marking sieve (drop i qs)
@@ -27,22 +28,6 @@ marking_step sieve qs i h = rw (add-one i, drop-cons qs i 0 h)
 pub marking-end : (sieve qs : List ℕ) (i : ℕ) → length qs ≤ i → sieve ≡ marking sieve (drop i qs)
 unfolding marking
 marking-end sieve qs i h = rw (drop_of_length-le qs h)
-
--- ---- the first place that is not below
-abbrev pub sought_from : List ℕ → ℕ → ℕ → ℕ
-sought_from qs a k = k + belows a (drop k qs)
-
-pub seek_stop : (qs : List ℕ) (a k : ℕ) → k < length qs → a ≤ get_or qs k 0 → k ≡ sought_from qs a k
-unfolding belows
-seek_stop qs a k h l = rw (drop-cons qs k 0 h, le-ltb (get_or qs k 0) a l) (omega arith)
-
-pub seek-step : (qs : List ℕ) (a k : ℕ) → k < length qs → get_or qs k 0 < a → sought_from qs a (k + 1) ≡ sought_from qs a k
-unfolding belows
-seek-step qs a k h l = rw (drop-cons qs k 0 h, lt-ltb (get_or qs k 0) a l, add-one k) (omega arith)
-
-pub seek-end : (qs : List ℕ) (a k : ℕ) → length qs ≤ k → k ≡ sought_from qs a k
-unfolding belows
-seek-end qs a k h = rw (drop_of_length-le qs h) (omega arith)
 
 -- ---- one term
 module _ (a : ℕ) (v : Float) (s : Sum) (qs : List ℕ) (ws : List Float) (k : ℕ) (e : k ≡ sought qs s.at a) where

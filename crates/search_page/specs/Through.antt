@@ -1,9 +1,10 @@
 -- A page's terms taken one by one, with the query laid out in a table or through a sieve, for any table, sieve and query: what the program
 -- does. Laws/Reads has what it comes to.
-use Rattle.std.specs.Prelude.{List, [], ◌∷◌, Bool, ◌&&◌, ◌||◌, cond, ℕ, suc, ◌+◌, ◌-◌, ◌%◌, length, get_or, drop, set, replicate, eqb, ltb, Float, Option, Some, None}
+use Rattle.std.specs.Prelude.{List, [], ◌∷◌, Bool, ◌&&◌, ◌||◌, cond, ℕ, ◌-◌, ◌%◌, length, get_or, set, replicate, eqb, ltb, Float, Option, Some, None}
 use Rattle.std.specs.Float.{nan, binary32}
 use Rattle.std.specs.Float.Ieee.{of_bits, add, mul}
 use Rattle.documents.specs.Checks.{slices_hold, slices_hold_below}
+use Rattle.documents.specs.Sought.{sought}
 use Rattle.search_page.specs.declared.Scores.{Scores}
 use Rattle.search_page.specs.declared.Sum.{Sum}
 
@@ -30,15 +31,6 @@ sieve_of qs = marking (replicate 4096 0) qs
 -- a sum on its way, and the place in the query from which the next component is looked up
 abbrev pub sum_of : Float → ℕ → Sum
 sum_of x j = record { total = x; at = j }
-
--- how many components at the front are below c
-unfoldable pub belows : ℕ → List ℕ → ℕ
-belows c [] = 0
-belows c (q ∷ qs) = cond (ltb q c) (suc (belows c qs)) 0
-
--- the first place from j on whose component is not below c
-unfoldable pub sought : List ℕ → ℕ → ℕ → ℕ
-sought qs j c = j + belows c (drop j qs)
 
 abbrev pub hits : List ℕ → List Float → ℕ → ℕ → Bool
 hits qs ws c at = ltb at (length qs) && (ltb at (length ws) && eqb (get_or qs at 0) c)

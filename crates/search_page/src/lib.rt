@@ -4,7 +4,17 @@
 ghost use Rattle.std.specs.Prelude.{◌≡◌, cond, ◌≤◌, ◌<◌, ◌+◌, ◌%◌, length, get_or, drop, set, ltb};
 ghost use Rattle.std.specs.Float.{nan, binary32};
 ghost use Rattle.std.specs.Float.Ieee.{of_bits, add, mul};
-ghost use Rattle.search_page.specs.Through.{laying, laid_sum, sieve_of, sought, looked, through, sum_of, last_fits, read_through, read_two};
+ghost use Rattle.search_page.specs.Through.{laying, laid_sum, sieve_of, looked, through, sum_of, last_fits, read_through, read_two};
+
+use documents::Terms;
+
+// A query laid out: its values in a table by component, the sieve of its components, and the query itself.
+#[derive(Clone, Copy)]
+pub struct Laid<'a> {
+    pub table: &'a [f32; 32768],
+    pub sieve: &'a [u8; 4096],
+    pub query: Terms<'a>,
+}
 
 // The scores of two pages.
 #[derive(Clone, Copy)]
@@ -31,10 +41,10 @@ fn put(table: &mut [f32; 32768], c: u32, weight: f32)
 }
 
 // Lays the query out in a table: the weight of each component below 32,768 at its own place. It is done once for a search, on zeros.
-pub fn lay(query_components: &[u32], query_values: &[f32], table: &mut [f32; 32768])
-    ensures { table.new ≡ laying table.old query_components.now query_values.now }
+pub fn lay(query: Terms<'_>, table: &mut [f32; 32768])
+    ensures { table.new ≡ laying table.old query.entry.components.now query.entry.values.now }
 {
-    for (c, weight) in query_components.iter().zip(query_values) {
+    for (c, weight) in query.components.iter().zip(query.values) {
         put(table, *c, *weight);
     }
 }
@@ -68,34 +78,21 @@ fn mark(sieve: &[u8; 4096], c: u32) -> u32
     wide(sieve[place])
 }
 
-// The first place from j on whose component is not below a.
-fn seek(query_components: &[u32], j: usize, a: u32) -> usize
-    ensures { result ≡ sought query_components.now j a }
-{
-    let n = query_components.len();
-    for k in j..n {
-        if a <= query_components[k] {
-            return k;
-        }
-    }
-    j.max(n)
-}
-
 // The sum with the product of one term, if the query has its component.
-fn look(a: u32, v: f32, s: Sum, query_components: &[u32], query_values: &[f32]) -> Sum
-    ensures { result ≡ looked query_components.now query_values.now a v s }
+fn look(a: u32, v: f32, s: Sum, query: Terms<'_>) -> Sum
+    ensures { result ≡ looked query.entry.components.now query.entry.values.now a v s }
 {
     let total = s.total;
-    let at = seek(query_components, s.at, a);
-    if query_components.len() <= at {
+    let at = documents::seek(query.components, s.at, a);
+    if query.components.len() <= at {
         return Sum { total, at };
     }
-    if query_values.len() <= at {
+    if query.values.len() <= at {
         return Sum { total, at };
     }
-    if query_components[at] == a {
+    if query.components[at] == a {
         return Sum {
-            total: total + v * query_values[at],
+            total: total + v * query.values[at],
             at,
         };
     }
@@ -109,20 +106,19 @@ fn term(
     values: &[f32],
     i: usize,
     s: Sum,
-    query_components: &[u32],
-    query_values: &[f32],
+    query: Terms<'_>,
 ) -> Sum
     requires i_in_bounds { i < length components.now }
     requires components_len { length components.now ≡ length values.now }
-    ensures { through sieve.now query_components.now query_values.now (drop i components.now) (drop i values.now) s
-        ≡ through sieve.now query_components.now query_values.now (drop (i + 1) components.now) (drop (i + 1) values.now) result }
+    ensures { through sieve.now query.entry.components.now query.entry.values.now (drop i components.now) (drop i values.now) s
+        ≡ through sieve.now query.entry.components.now query.entry.values.now (drop (i + 1) components.now) (drop (i + 1) values.now) result }
 {
     let c = components[i];
     if mark(sieve, c) == 0 {
         return s;
     }
     let v = values[i];
-    look(c, v, s, query_components, query_values)
+    look(c, v, s, query)
 }
 
 // The terms from i to below e.
@@ -133,26 +129,17 @@ fn terms(
     i: usize,
     e: usize,
     s: Sum,
-    query_components: &[u32],
-    query_values: &[f32],
+    query: Terms<'_>,
 ) -> Sum
     requires i_le_e { i ≤ e }
     requires e_in_bounds { e ≤ length components.now }
     requires components_len { length components.now ≡ length values.now }
-    ensures { through sieve.now query_components.now query_values.now (drop i components.now) (drop i values.now) s
-        ≡ through sieve.now query_components.now query_values.now (drop e components.now) (drop e values.now) result }
+    ensures { through sieve.now query.entry.components.now query.entry.values.now (drop i components.now) (drop i values.now) s
+        ≡ through sieve.now query.entry.components.now query.entry.values.now (drop e components.now) (drop e values.now) result }
 {
     let mut t = s;
     for k in i..e {
-        t = term(
-            sieve,
-            components,
-            values,
-            k,
-            t,
-            query_components,
-            query_values,
-        );
+        t = term(sieve, components, values, k, t, query);
     }
     t
 }
@@ -164,13 +151,12 @@ fn four(
     values: &[f32],
     i: usize,
     s: Sum,
-    query_components: &[u32],
-    query_values: &[f32],
+    query: Terms<'_>,
 ) -> Sum
     requires i_in_bounds { i + 4 ≤ length components.now }
     requires components_len { length components.now ≡ length values.now }
-    ensures { through sieve.now query_components.now query_values.now (drop i components.now) (drop i values.now) s
-        ≡ through sieve.now query_components.now query_values.now (drop (i + 4) components.now) (drop (i + 4) values.now) result }
+    ensures { through sieve.now query.entry.components.now query.entry.values.now (drop i components.now) (drop i values.now) s
+        ≡ through sieve.now query.entry.components.now query.entry.values.now (drop (i + 4) components.now) (drop (i + 4) values.now) result }
 {
     let m0 = mark(sieve, components[i]);
     let m1 = mark(sieve, components[i + 1]);
@@ -179,54 +165,22 @@ fn four(
     if m0 + m1 + m2 + m3 == 0 {
         return s;
     }
-    terms(
-        sieve,
-        components,
-        values,
-        i,
-        i + 4,
-        s,
-        query_components,
-        query_values,
-    )
+    terms(sieve, components, values, i, i + 4, s, query)
 }
 
 // The sum over a page's terms, which are as many components as values.
-fn walk(
-    sieve: &[u8; 4096],
-    components: &[u32],
-    values: &[f32],
-    query_components: &[u32],
-    query_values: &[f32],
-) -> f32
+fn walk(sieve: &[u8; 4096], components: &[u32], values: &[f32], query: Terms<'_>) -> f32
     requires { length components.now ≡ length values.now }
-    ensures { result ≡ (through sieve.now query_components.now query_values.now components.now values.now
+    ensures { result ≡ (through sieve.now query.entry.components.now query.entry.values.now components.now values.now
         (sum_of (of_bits binary32 0) 0)).total }
 {
     let n = components.len();
     let mut s = Sum { total: 0.0, at: 0 };
     let fours = n / 4;
     for b in 0..fours {
-        s = four(
-            sieve,
-            components,
-            values,
-            b * 4,
-            s,
-            query_components,
-            query_values,
-        );
+        s = four(sieve, components, values, b * 4, s, query);
     }
-    s = terms(
-        sieve,
-        components,
-        values,
-        fours * 4,
-        n,
-        s,
-        query_components,
-        query_values,
-    );
+    s = terms(sieve, components, values, fours * 4, n, s, query);
     s.total
 }
 
@@ -305,46 +259,34 @@ fn fits_table(components: &[u32]) -> bool
 
 // A page's score where its components are expected in the table, or nothing where its terms break their rules (14): whether they are is
 // checked with its terms, and only where they are not it is looked whether the terms hold at all.
-fn read_narrow(
-    table: &[f32; 32768],
-    sieve: &[u8; 4096],
-    components: &[u32],
-    values: &[f32],
-    query_components: &[u32],
-    query_values: &[f32],
-) -> Option<f32>
-    ensures { result ≡ read_through table.now sieve.now query_components.now query_values.now components.now values.now }
+fn read_narrow(laid: Laid<'_>, components: &[u32], values: &[f32]) -> Option<f32>
+    ensures { result ≡ read_through laid.entry.table.now laid.entry.sieve.now laid.entry.query.components.now laid.entry.query.values.now
+        components.now values.now }
 {
     if document_checks::slices_hold_below(32768, components, values) {
-        let laid = laid_sum(table, components, values);
-        return Some(laid);
+        let score = laid_sum(laid.table, components, values);
+        return Some(score);
     }
     if document_checks::slices_hold(components, values) {
-        let score = walk(sieve, components, values, query_components, query_values);
+        let score = walk(laid.sieve, components, values, laid.query);
         return Some(score);
     }
     None
 }
 
 // The same reading where some component is expected past the table: the terms are checked once, whichever way is taken then.
-fn read_wide(
-    table: &[f32; 32768],
-    sieve: &[u8; 4096],
-    components: &[u32],
-    values: &[f32],
-    query_components: &[u32],
-    query_values: &[f32],
-) -> Option<f32>
-    ensures { result ≡ read_through table.now sieve.now query_components.now query_values.now components.now values.now }
+fn read_wide(laid: Laid<'_>, components: &[u32], values: &[f32]) -> Option<f32>
+    ensures { result ≡ read_through laid.entry.table.now laid.entry.sieve.now laid.entry.query.components.now laid.entry.query.values.now
+        components.now values.now }
 {
     if !document_checks::slices_hold(components, values) {
         return None;
     }
     if fits_table(components) {
-        let laid = laid_sum(table, components, values);
-        return Some(laid);
+        let score = laid_sum(laid.table, components, values);
+        return Some(score);
     }
-    let score = walk(sieve, components, values, query_components, query_values);
+    let score = walk(laid.sieve, components, values, laid.query);
     Some(score)
 }
 
@@ -352,35 +294,14 @@ fn read_wide(
 // their rules (14). `narrow` says which of the two ways is expected: it changes the steps that are made, and never what is read. With the
 // table and the sieve of a query whose terms hold, it is the reading against that query (specs/Laws/Reads). It takes time in proportion to
 // the page's terms.
-pub fn read(
-    narrow: bool,
-    table: &[f32; 32768],
-    sieve: &[u8; 4096],
-    components: &[u32],
-    values: &[f32],
-    query_components: &[u32],
-    query_values: &[f32],
-) -> Option<f32>
-    ensures { result ≡ read_through table.now sieve.now query_components.now query_values.now components.now values.now }
+pub fn read(narrow: bool, laid: Laid<'_>, components: &[u32], values: &[f32]) -> Option<f32>
+    ensures { result ≡ read_through laid.entry.table.now laid.entry.sieve.now laid.entry.query.components.now laid.entry.query.values.now
+        components.now values.now }
 {
     if narrow {
-        return read_narrow(
-            table,
-            sieve,
-            components,
-            values,
-            query_components,
-            query_values,
-        );
+        return read_narrow(laid, components, values);
     }
-    read_wide(
-        table,
-        sieve,
-        components,
-        values,
-        query_components,
-        query_values,
-    )
+    read_wide(laid, components, values)
 }
 
 // Two pages read at a time by the table: both scores where each page's terms hold and have their places in the table, else nothing.

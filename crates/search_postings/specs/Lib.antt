@@ -3,3 +3,4 @@ pub mod Outcomes
 pub mod Postings
 pub mod Pairs
 pub mod Laws
+pub mod Lent

@@ -3,12 +3,14 @@
 // any answer would do.
 ghost use Rattle.std.specs.Prelude.{◌≡◌, length as len};
 
+use documents::Terms;
 use packing::PackedPosting;
 
 // How many components, or values, there are in a cache line.
 const LINE: usize = 16;
 
-// The bits that are set in any of the components and visit bytes looked at, and whether no page's values looked at are below zero in sum.
+// The bits that are set in any of the components and visit bytes looked at, and whether no page's values looked at are below zero in sum: two
+// facts, neither a flag for the other.
 #[derive(Drop)]
 struct Seen {
     bits: u32,
@@ -38,18 +40,12 @@ fn touch(seen: Seen, components: &[u32], values: &[f32]) -> Seen
 }
 
 // The same with a posting's terms, and with its visit byte.
-fn look(
-    seen: Seen,
-    components: &[u32],
-    values: &[f32],
-    visits: &[u8],
-    posting: PackedPosting,
-) -> Seen {
+fn look(seen: Seen, terms: Terms<'_>, visits: &[u8], posting: PackedPosting) -> Seen {
     let range = posting.unpack();
     let from = range.start.0 as usize;
     let to = range.end as usize;
     let visit = cells::at(visits, from, 0);
-    let n = documents::term_count(components, values);
+    let n = documents::term_count(terms.components, terms.values);
     if n < to {
         return seen;
     }
@@ -58,25 +54,20 @@ fn look(
             bits: seen.bits | (visit as u32),
             fine: seen.fine,
         },
-        &components[from..to],
-        &values[from..to],
+        &terms.components[from..to],
+        &terms.values[from..to],
     )
 }
 
 // Whether no component looked at lies past a query's table, and no page's values looked at are below zero in sum. It takes a few steps for
 // each cache line of the postings' terms.
-pub(crate) fn look_ahead(
-    components: &[u32],
-    values: &[f32],
-    visits: &[u8],
-    postings: &[u64],
-) -> bool {
+pub(crate) fn look_ahead(terms: Terms<'_>, visits: &[u8], postings: &[u64]) -> bool {
     let mut seen = Seen {
         bits: 0,
         fine: true,
     };
     for posting in postings {
-        seen = look(seen, components, values, visits, PackedPosting(*posting));
+        seen = look(seen, terms, visits, PackedPosting(*posting));
     }
     (seen.bits < 32768) & seen.fine
 }

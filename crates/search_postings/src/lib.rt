@@ -8,15 +8,18 @@ mod pairs;
 ghost use Rattle.std.specs.Prelude.{◌≡◌, ◌+◌, ◌-◌, ◌≤◌, ◌<◌, min, length as len};
 ghost use Rattle.sequences.specs.Lists.{from};
 ghost use Rattle.kept_list.specs.Lent.{lent};
-ghost use Rattle.search_postings.specs.Ranges.{range_through, through_table};
+ghost use Rattle.search_postings.specs.Ranges.{range_through};
 ghost use Rattle.search_postings.specs.Postings.{lends, turned, held_evaluate, held_probe};
 ghost use Rattle.search_postings.specs.Pairs.{probe_rest, leads_to};
+ghost use Rattle.search_postings.specs.Lent.{through_lent};
 
 use ahead::look_ahead;
+use documents::Terms;
 use number_types::RangeStart;
 use packing::PackedPosting;
 use pairs::evaluate_two;
 use refusal::Refusal;
+use search_page::Laid;
 
 // What reading a posting's range says.
 #[derive(Drop)]
@@ -53,33 +56,26 @@ const AHEAD: usize = 8;
 // The terms from a start to below an end, read by the table or through the sieve, whichever is expected.
 fn read_range(
     narrow: bool,
-    table: &[f32; 32768],
-    sieve: &[u8; 4096],
-    query_components: &[u32],
-    query_values: &[f32],
-    components: &[u32],
-    values: &[f32],
+    laid: Laid<'_>,
+    terms: Terms<'_>,
     start: RangeStart,
     end: u64,
 ) -> RangeReading
     requires { start.0 ≤ end }
-    ensures { result ≡ range_through table.now sieve.now query_components.now query_values.now components.now
-        values.now start.0 end }
+    ensures { result ≡ range_through laid.entry.table.now laid.entry.sieve.now laid.entry.query.components.now laid.entry.query.values.now
+        terms.entry.components.now terms.entry.values.now start.0 end }
 {
     let from = start.0 as usize;
     let to = end as usize;
-    let n = documents::term_count(components, values);
+    let n = documents::term_count(terms.components, terms.values);
     if n < to {
         return RangeReading::ReachesPast;
     }
     let r = search_page::read(
         narrow,
-        table,
-        sieve,
-        &components[from..to],
-        &values[from..to],
-        query_components,
-        query_values,
+        laid,
+        &terms.components[from..to],
+        &terms.values[from..to],
     );
     match r {
         None => RangeReading::Breaks,
@@ -91,12 +87,8 @@ fn read_range(
 // and its start is marked. The answer is the counts after it, or the stop at it; nothing changes where it stops the search.
 fn evaluate(
     narrow: bool,
-    table: &[f32; 32768],
-    sieve: &[u8; 4096],
-    query_components: &[u32],
-    query_values: &[f32],
-    components: &[u32],
-    values: &[f32],
+    laid: Laid<'_>,
+    terms: Terms<'_>,
     k: u64,
     posting: PackedPosting,
     position: u64,
@@ -107,24 +99,14 @@ fn evaluate(
     counts: Counts,
 ) -> Result<Counts, Stop>
     ensures { turned result (lends (lent length.new packed.new scores.new) visits.new)
-        ≡ held_evaluate k (through_table table.now sieve.now query_components.now query_values.now components.now values.now)
+        ≡ held_evaluate k (through_lent laid.entry.table.now laid.entry.sieve.now laid.entry.query terms.entry)
         posting.0 position counts (lends (lent length.old packed.old scores.old) visits.old) }
 {
     let range = posting.unpack();
     if search_steps::is_visited(visits, range.start) {
         return Ok(counts);
     }
-    let r = read_range(
-        narrow,
-        table,
-        sieve,
-        query_components,
-        query_values,
-        components,
-        values,
-        range.start,
-        range.end,
-    );
+    let r = read_range(narrow, laid, terms, range.start, range.end);
     match r {
         RangeReading::ReachesPast => Err(Stop {
             reason: Refusal::PastTheTerms,
@@ -148,12 +130,8 @@ fn evaluate(
 // place for each of their components.
 fn step_on(
     narrow: bool,
-    table: &[f32; 32768],
-    sieve: &[u8; 4096],
-    query_components: &[u32],
-    query_values: &[f32],
-    components: &[u32],
-    values: &[f32],
+    laid: Laid<'_>,
+    terms: Terms<'_>,
     k: u64,
     postings: &[u64],
     i: usize,
@@ -166,10 +144,9 @@ fn step_on(
 ) -> Result<Next, Stop>
     requires i_lt_stop { i < stop }
     requires stop_bound { stop ≤ len postings.now }
-    ensures turned { probe_rest k (through_table table.now sieve.now query_components.now query_values.now components.now
-        values.now) postings.now stop result (lends (lent length.new packed.new scores.new) visits.new)
-        ≡ held_probe k (through_table table.now sieve.now query_components.now query_values.now components.now
-        values.now) postings.now (from i (stop - i)) counts
+    ensures turned { probe_rest k (through_lent laid.entry.table.now laid.entry.sieve.now laid.entry.query terms.entry) postings.now stop result
+        (lends (lent length.new packed.new scores.new) visits.new)
+        ≡ held_probe k (through_lent laid.entry.table.now laid.entry.sieve.now laid.entry.query terms.entry) postings.now (from i (stop - i)) counts
         (lends (lent length.old packed.old scores.old) visits.old) }
     ensures further { i < leads_to stop result }
 {
@@ -177,9 +154,8 @@ fn step_on(
     let wanted = narrow & (2 <= stop - i);
     let both = evaluate_two(
         wanted,
-        table,
-        components,
-        values,
+        laid.table,
+        terms,
         k,
         posting,
         PackedPosting(cells::at(postings, i + 1, 0)),
@@ -196,21 +172,7 @@ fn step_on(
         });
     }
     let c = evaluate(
-        narrow,
-        table,
-        sieve,
-        query_components,
-        query_values,
-        components,
-        values,
-        k,
-        posting,
-        i as u64,
-        length,
-        packed,
-        scores,
-        visits,
-        counts,
+        narrow, laid, terms, k, posting, i as u64, length, packed, scores, visits, counts,
     )?;
     Ok(Next {
         counts: c,
@@ -222,12 +184,8 @@ fn step_on(
 // of them. Some at a time are looked at ahead, so that their terms are on their way when they are read; what that says changes only the
 // way of reading. It takes time in proportion to the terms of the postings evaluated, and a few steps for each one passed over.
 pub fn probe_postings(
-    table: &[f32; 32768],
-    sieve: &[u8; 4096],
-    query_components: &[u32],
-    query_values: &[f32],
-    components: &[u32],
-    values: &[f32],
+    laid: Laid<'_>,
+    terms: Terms<'_>,
     k: u64,
     postings: &[u64],
     first: usize,
@@ -239,9 +197,8 @@ pub fn probe_postings(
     counts: Counts,
 ) -> Result<Counts, Stop>
     ensures { turned result (lends (lent length.new packed.new scores.new) visits.new)
-        ≡ held_probe k (through_table table.now sieve.now query_components.now query_values.now components.now
-        values.now) postings.now (from first (min end (len postings.now) - first)) counts
-        (lends (lent length.old packed.old scores.old) visits.old) }
+        ≡ held_probe k (through_lent laid.entry.table.now laid.entry.sieve.now laid.entry.query terms.entry) postings.now (from first (min end
+        (len postings.now) - first)) counts (lends (lent length.old packed.old scores.old) visits.old) }
 {
     let stop = (end as usize).min(postings.len());
     let mut c = counts;
@@ -252,25 +209,10 @@ pub fn probe_postings(
     while i < stop {
         if known <= i {
             known = (stop - i).min(AHEAD) + i;
-            narrow = look_ahead(components, values, visits, &postings[i..known]);
+            narrow = look_ahead(terms, visits, &postings[i..known]);
         }
         let s = step_on(
-            narrow,
-            table,
-            sieve,
-            query_components,
-            query_values,
-            components,
-            values,
-            k,
-            postings,
-            i,
-            stop,
-            length,
-            packed,
-            scores,
-            visits,
-            c,
+            narrow, laid, terms, k, postings, i, stop, length, packed, scores, visits, c,
         )?;
         c = s.counts;
         i = s.next;

@@ -6,6 +6,7 @@ ghost use Rattle.search_postings.specs.Postings.{lends};
 ghost use Rattle.search_postings.specs.Pairs.{read_both, went_on, held_known, both_turned, held_two};
 
 use crate::Counts;
+use documents::Terms;
 use packing::PackedPosting;
 use search_page::Scores;
 
@@ -14,13 +15,12 @@ use search_page::Scores;
 fn read_both(
     wanted: bool,
     table: &[f32; 32768],
-    components: &[u32],
-    values: &[f32],
+    terms: Terms<'_>,
     visits: &[u8],
     one: PackedPosting,
     two: PackedPosting,
 ) -> Option<Scores>
-    ensures { result ≡ read_both wanted table.now components.now values.now visits.now one.0 two.0 }
+    ensures { result ≡ read_both wanted table.now terms.entry.components.now terms.entry.values.now visits.now one.0 two.0 }
 {
     if !wanted {
         return None;
@@ -34,16 +34,16 @@ fn read_both(
     let a_to = a.end as usize;
     let b_from = b.start.0 as usize;
     let b_to = b.end as usize;
-    let n = documents::term_count(components, values);
+    let n = documents::term_count(terms.components, terms.values);
     if (n < a_to) | (n < b_to) {
         return None;
     }
     search_page::read_two(
         table,
-        &components[a_from..a_to],
-        &values[a_from..a_to],
-        &components[b_from..b_to],
-        &values[b_from..b_to],
+        &terms.components[a_from..a_to],
+        &terms.values[a_from..a_to],
+        &terms.components[b_from..b_to],
+        &terms.values[b_from..b_to],
     )
 }
 
@@ -77,8 +77,7 @@ fn evaluate_known(
 pub(crate) fn evaluate_two(
     wanted: bool,
     table: &[f32; 32768],
-    components: &[u32],
-    values: &[f32],
+    terms: Terms<'_>,
     k: u64,
     one: PackedPosting,
     two: PackedPosting,
@@ -89,10 +88,10 @@ pub(crate) fn evaluate_two(
     counts: Counts,
 ) -> Option<Counts>
     ensures { both_turned result (lends (lent length.new packed.new scores.new) visits.new)
-        ≡ held_two k (read_both wanted table.now components.now values.now visits.old one.0 two.0) one.0 two.0 counts
+        ≡ held_two k (read_both wanted table.now terms.entry.components.now terms.entry.values.now visits.old one.0 two.0) one.0 two.0 counts
         (lends (lent length.old packed.old scores.old) visits.old) }
 {
-    let s = read_both(wanted, table, components, values, visits, one, two)?;
+    let s = read_both(wanted, table, terms, visits, one, two)?;
     let c = evaluate_known(k, one, s.one, length, packed, scores, visits, counts);
     let d = evaluate_known(k, two, s.two, length, packed, scores, visits, c);
     Some(d)

@@ -1,3 +1,4 @@
 pub mod Probing
 pub mod Probed
 pub mod Laws
+pub mod Lent

@@ -5,9 +5,12 @@
 ghost use Rattle.std.specs.Prelude.{◌≡◌};
 ghost use Rattle.refusal.specs.First.{first_of};
 ghost use Rattle.kept_list.specs.Lent.{lent};
-ghost use Rattle.search_probe.specs.Probed.{terms, lends, left, tests, listed, probed, answer_of};
+ghost use Rattle.search_probe.specs.Probed.{lends, left, tests, listed, probed, answer_of};
+ghost use Rattle.search_probe.specs.Lent.{lent_terms};
 
+use documents::Terms;
 use refusal::Refusal;
+use search_page::Laid;
 use search_postings::{Counts, Stop};
 
 // What a search says: a refusal; a posting at which it was stopped, by its place among the postings; or how many entries are kept,
@@ -45,30 +48,28 @@ fn finish(t: Result<Counts, Stop>, kept: u64) -> Answer
 
 // What must hold before the first turn: 10, 6, 12 (more kept than k), 4.
 fn admit(
-    query_components: &[u32],
-    query_values: &[f32],
-    components: &[u32],
-    values: &[f32],
+    query: Terms<'_>,
+    terms: Terms<'_>,
     k: u64,
     length: u64,
     packed: &[u64],
     scores: &[f32],
     visits: &[u8],
 ) -> Result<(), Refusal>
-    ensures { result ≡ first_of (tests k (terms query_components.now query_values.now components.now values.now)
+    ensures { result ≡ first_of (tests k (lent_terms query.entry terms.entry)
         (lends (lent length packed.now scores.now) visits.now)) }
 {
-    if !document_checks::slices_hold(query_components, query_values) {
+    if !document_checks::slices_hold(query.components, query.values) {
         return Err(Refusal::WrongQuery);
     }
-    if components.len() != values.len() {
+    if terms.components.len() != terms.values.len() {
         return Err(Refusal::WrongDocuments);
     }
     if k < length {
         return Err(Refusal::WrongKeptList);
     }
     let most = k as usize;
-    if (packed.len() < most) | (scores.len() < most) | (visits.len() <= components.len()) {
+    if (packed.len() < most) | (scores.len() < most) | (visits.len() <= terms.components.len()) {
         return Err(Refusal::BufferTooShort);
     }
     Ok(())
@@ -79,12 +80,10 @@ fn admit(
 // posting. It takes time in proportion to the terms of the postings evaluated, and a few steps for each posting passed over and each
 // block skipped.
 pub fn probe(
-    query_components: &[u32],
-    query_values: &[f32],
+    query: Terms<'_>,
     k: u64,
     factor: f32,
-    components: &[u32],
-    values: &[f32],
+    terms: Terms<'_>,
     postings: &[u64],
     block_offsets: &[u64],
     block_scores: &[f32],
@@ -96,36 +95,26 @@ pub fn probe(
     visits: &mut [u8],
 ) -> Answer
     ensures { left result (lends (lent length.new packed.new scores.new) visits.new)
-        ≡ probed k factor (terms query_components.now query_values.now components.now values.now)
+        ≡ probed k factor (lent_terms query.entry terms.entry)
         postings.now block_offsets.now block_scores.now (listed block_order.now turns) (lends (lent length.old packed.old
         scores.old) visits.old) }
 {
     let n = *length;
-    let verdict = admit(
-        query_components,
-        query_values,
-        components,
-        values,
-        k,
-        n,
-        packed,
-        scores,
-        visits,
-    );
+    let verdict = admit(query, terms, k, n, packed, scores, visits);
     if let Err(reason) = verdict {
         return Answer::Refused(reason);
     }
-    let bytes = components.len() + 1;
+    let bytes = terms.components.len() + 1;
     let mut table = [0.0f32; 32768];
-    search_page::lay(query_components, query_values, &mut table);
-    let sieve = search_page::sieve_of(query_components);
+    search_page::lay(query, &mut table);
+    let sieve = search_page::sieve_of(query.components);
     let t = search_blocks::sweep(
-        &table,
-        &sieve,
-        query_components,
-        query_values,
-        components,
-        values,
+        Laid {
+            table: &table,
+            sieve: &sieve,
+            query,
+        },
+        terms,
         k,
         factor,
         postings,

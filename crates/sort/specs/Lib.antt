@@ -1,4 +1,5 @@
 pub mod Sorted
+pub mod Ranked
 pub mod Steps
 pub mod Promises
 pub mod Laws

@@ -9,14 +9,15 @@ use native.Mathlib.Nat.{min-eq_left, le_trans}
 use native.Mathlib.Decide.{dec_le}
 use native.Mathlib.Numerals.{add-one}
 use lib.ListN.{length, get_or, take, drop, set, replicate, drop_of_length-le, get_or-eq_default}
-use lib.Seq.{slice, slice-cons, drop-cons, take-nil, take_all}
-use lib.Dec.{leb}
+use lib.Seq.{slice, slice-cons, take-nil, take_all}
+use lib.Dec.{leb, ltb}
 use lib.IntN.{pos}
 use lib.Ieee.{Float, nan, fin, binary32, add, mul}
-use borrow.Author.Tests.{lt-ltb, le-ltb, le-leb, lt-leb, leb-false, eq-eqb, ne_eqb}
+use borrow.Author.Tests.{ltb-true, ltb-false, lt-ltb, le-ltb, le-leb, lt-leb, leb-false, eq-eqb, ne_eqb}
 use Rattle.sequences.specs.Lists.{before, between, part}
 use Rattle.sequences.specs.Laws.Lists.{any-default}
 use Rattle.documents.specs.Documents.{paired}
+use Rattle.documents.specs.Sought.{belows, sought}
 use Rattle.quantizing.specs.Quantizing.{read_back}
 use Rattle.sparse_scores.specs.Layout.{Layout, arrays, entry, entries, entries_at, place_of}
 use Rattle.sparse_scores.specs.Scores.{summary_count, scores_of, put_in}
@@ -25,18 +26,22 @@ use Rattle.sparse_scores.specs.Laws.Walk.{walked}
 use Rattle.sparse_scores.specs.Laws.WalkLaws.{walk-scores}
 
 -- ---- seeking
-module _ (cs : List ℕ) (c : ℕ) where
-  pub seek-here : (at : ℕ) → at < length cs → c ≤ get_or cs at 0 → place_of c (drop at cs) ≡ 0
-  seek-here at h k = rw (drop-cons cs at 0 h, le-leb c (get_or cs at 0) k)
+belows_place : (c : ℕ) (cs : List ℕ) → belows c cs ≡ place_of c cs
+unfolding belows
+belows_place c [] = refl
+belows_place c (x ∷ cs) = go (ltb x c) refl (belows_place c cs)
+  where
+    go : (b : Bool) → ltb x c ≡ b → belows c cs ≡ place_of c cs → cond b (suc (belows c cs)) 0 ≡ place_of c (x ∷ cs)
+    go true e i = rw (lt-leb c x (ltb-true x c e)) (ap suc i)
+    go false e i = rw (le-leb c x (ltb-false x c e)) refl
 
-  pub seek-on : (at : ℕ) → at < length cs → get_or cs at 0 < c → (at + 1) + place_of c (drop (at + 1) cs) ≡ at + place_of c (drop at cs)
-  seek-on at h k = rw (add-one at, drop-cons cs at 0 h, lt-leb c (get_or cs at 0) k) (omega arith)
+-- the place sought by components is the layout's place of one
+sought_place : (c from : ℕ) (cs : List ℕ) → sought cs from c ≡ from + place_of c (drop from cs)
+unfolding sought
+sought_place c from cs = ap (λ n. from + n) (belows_place c (drop from cs))
 
-  pub seek-end : (at : ℕ) → length cs ≤ at → place_of c (drop at cs) ≡ 0
-  seek-end at h = rw (drop_of_length-le cs h)
-
-  pub seek-stops : (at whole : ℕ) → at + place_of c (drop at cs) ≡ whole → place_of c (drop at cs) ≡ 0 → at ≡ whole
-  seek-stops at whole e z = omega arith
+pub sought-first : (c r : ℕ) (cs : List ℕ) → r ≡ sought cs 0 c → r ≡ place_of c cs
+sought-first c r cs e = let z : r ≡ 0 + place_of c cs = e ∙ sought_place c 0 cs in omega arith
 
 -- what stands before a smaller component stands before c
 pub place-from : (last c : ℕ) (cs : List ℕ) → last ≤ c → place_of last cs + place_of c (drop (place_of last cs) cs) ≡ place_of c cs
@@ -48,19 +53,8 @@ place-from last c (x ∷ cs) h = go (leb last x) refl (place-from last c cs h)
     go true e i = omega arith
     go false e i = rw (lt-leb c x (omega (arith, leb-false last x e))) (omega arith)
 
-pub placed : (last c at r : ℕ) (cs : List ℕ) → at ≡ place_of last cs → last ≤ c → r ≡ at + place_of c (drop at cs) → r ≡ place_of c cs
-placed last c at r cs e h k = k ∙ ap (λ n. n + place_of c (drop n cs)) e ∙ place-from last c cs h
-
-pub place-inside : (last at : ℕ) (cs : List ℕ) → at ≡ place_of last cs → at ≤ length cs
-place-inside last at cs e = let h = short cs in omega arith
-  where
-    short : (cs : List ℕ) → place_of last cs ≤ length cs
-    short [] = omega arith
-    short (x ∷ cs) = go (leb last x) (short cs)
-      where
-        go : (b : Bool) → place_of last cs ≤ length cs → length (cond b [] (x ∷ before (λ y. leb last y) cs)) ≤ suc (length cs)
-        go true h = omega arith
-        go false h = omega arith
+pub placed : (last c at r : ℕ) (cs : List ℕ) → at ≡ place_of last cs → last ≤ c → r ≡ sought cs at c → r ≡ place_of c cs
+placed last c at r cs e h k = k ∙ sought_place c at cs ∙ ap (λ n. n + place_of c (drop n cs)) e ∙ place-from last c cs h
 
 pub first-place : (cs : List ℕ) → 0 ≡ place_of 0 cs
 first-place [] = refl

@@ -5,3 +5,4 @@ pub mod ReadBack
 pub mod Walk
 pub mod Promises
 pub mod Laws
+pub mod Lent

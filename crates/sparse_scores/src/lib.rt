@@ -1,15 +1,20 @@
 // The sparse layout of a list's summaries: the score of each summary for a query. Its check stands in crate search_checks.
 #![tactic(auto)]
 
+pub mod summaries;
+
 ghost use Rattle.std.specs.Prelude.{◌≡◌, false, ◌++◌, ◌+◌, ◌≤◌, length, drop, replicate, pos};
 ghost use Rattle.std.proofs.Math.Seq.{slice};
 ghost use Rattle.std.specs.Float.{fin};
-ghost use Rattle.sparse_scores.specs.Layout.{arrays, entry, entries, entries_at, place_of};
+ghost use Rattle.sparse_scores.specs.Layout.{entry, entries, entries_at, place_of};
 ghost use Rattle.sparse_scores.specs.Scores.{scores_of, put_in};
-ghost use Rattle.documents.specs.Documents.{paired};
+ghost use Rattle.documents.specs.Lent.{terms_lent};
 ghost use Rattle.sparse_scores.specs.Walk.{grown, grown_by, Spans};
+ghost use Rattle.sparse_scores.specs.Lent.{layout_lent};
 
+use documents::Terms;
 use number_types::BlockNumber;
+use summaries::Summaries;
 
 // Sets the first n scores to +0.
 fn clear(n: usize, block_scores: &mut [f32])
@@ -19,28 +24,15 @@ fn clear(n: usize, block_scores: &mut [f32])
     block_scores[..n].fill(0.0);
 }
 
-// The first place from `from` on whose component is not below c.
-fn seek(summary_components: &[u32], from: usize, c: u32) -> usize
-    requires { from ≤ length summary_components.now }
-    ensures { result ≡ from + place_of c (drop from summary_components.now) }
-{
-    for at in from..summary_components.len() {
-        if c <= summary_components[at] {
-            return at;
-        }
-    }
-    summary_components.len()
-}
-
 // The place of c, looked for from the place `at` of the component looked for before; from the start, should the query's components fall.
 fn next_place(summary_components: &[u32], at: usize, last: u32, c: u32) -> usize
     requires { at ≡ place_of last summary_components.now }
     ensures { result ≡ place_of c summary_components.now }
 {
     if c < last {
-        return seek(summary_components, 0, c);
+        return documents::seek(summary_components, 0, c);
     }
-    seek(summary_components, at, c)
+    documents::seek(summary_components, at, c)
 }
 
 // Where the entries of a component start and end.
@@ -137,70 +129,53 @@ fn add_term(
     place: usize,
     c: u32,
     value: f32,
-    summary_components: &[u32],
-    component_offsets: &[u64],
-    summary_ids: &[u16],
-    codes: &[u8],
-    minimums: &[f32],
-    steps: &[f32],
+    summaries: Summaries<'_>,
     block_scores: &mut [f32],
 )
-    requires n_in_bounds { n ≤ length minimums.now }
-    requires n_in_bounds_2 { n ≤ length steps.now }
+    requires n_in_bounds { n ≤ length summaries.minimums.now }
+    requires n_in_bounds_2 { n ≤ length summaries.steps.now }
     requires n_in_bounds_3 { n ≤ length block_scores.old }
-    ensures { block_scores.new ≡ grown_by n minimums.now steps.now value (entries_at (arrays summary_components.now component_offsets.now
-        summary_ids.now codes.now minimums.now steps.now) place c) block_scores.old }
+    ensures { block_scores.new ≡ grown_by n summaries.entry.minimums.now summaries.entry.steps.now value (entries_at (layout_lent
+        summaries.entry) place c) block_scores.old }
 {
-    let range = range_at(summary_components, component_offsets, place, c);
-    let end = range.to.min(summary_ids.len().min(codes.len()));
+    let range = range_at(
+        summaries.summary_components,
+        summaries.component_offsets,
+        place,
+        c,
+    );
+    let end = range
+        .to
+        .min(summaries.summary_ids.len().min(summaries.codes.len()));
     add_entries(
         n,
-        minimums,
-        steps,
+        summaries.minimums,
+        summaries.steps,
         value,
         range.from,
         end,
-        summary_ids,
-        codes,
+        summaries.summary_ids,
+        summaries.codes,
         block_scores,
     );
 }
 
 // The score of each summary for a query, into the front of the lent scores: for each of the query's terms, the entries of its component.
 // Past the summaries nothing changes. It costs the query's terms, the components and the entries that they meet, whatever the lists hold.
-pub fn distances(
-    query_components: &[u32],
-    query_values: &[f32],
-    summary_components: &[u32],
-    component_offsets: &[u64],
-    summary_ids: &[u16],
-    codes: &[u8],
-    minimums: &[f32],
-    steps: &[f32],
-    block_scores: &mut [f32],
-)
-    ensures { block_scores.new ≡ put_in (scores_of (arrays summary_components.now component_offsets.now summary_ids.now codes.now
-        minimums.now steps.now) (paired query_components.now query_values.now)) block_scores.old }
+pub fn distances(query: Terms<'_>, summaries: Summaries<'_>, block_scores: &mut [f32])
+    ensures { block_scores.new ≡ put_in (scores_of (layout_lent summaries.entry) (terms_lent query.entry)) block_scores.old }
 {
-    let n = minimums.len().min(steps.len()).min(block_scores.len());
+    let n = summaries
+        .minimums
+        .len()
+        .min(summaries.steps.len())
+        .min(block_scores.len());
     clear(n, block_scores);
     let mut place = 0usize;
     let mut last = 0u32;
-    for (c, value) in query_components.iter().zip(query_values) {
-        place = next_place(summary_components, place, last, *c);
+    for (c, value) in query.components.iter().zip(query.values) {
+        place = next_place(summaries.summary_components, place, last, *c);
         last = *c;
-        add_term(
-            n,
-            place,
-            *c,
-            *value,
-            summary_components,
-            component_offsets,
-            summary_ids,
-            codes,
-            minimums,
-            steps,
-            block_scores,
-        );
+        add_term(n, place, *c, *value, summaries, block_scores);
     }
 }

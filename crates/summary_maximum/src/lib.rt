@@ -5,11 +5,13 @@ ghost use Rattle.std.specs.Prelude.{◌≡◌, cond, ◌&&◌, length, get_or, s
 ghost use mathlib.Core.List.{foldl};
 ghost use Rattle.std.specs.Float.{nan};
 ghost use Rattle.std.specs.Float.Ieee.{lt};
-ghost use Rattle.documents.specs.Documents.{documents, term, terms, paired};
+ghost use Rattle.documents.specs.Documents.{term, terms, paired};
 ghost use Rattle.documents.specs.TermKeys.{component_of};
+ghost use Rattle.documents.specs.Lent.{lent};
 ghost use Rattle.summary_maximum.specs.Maximum.{block_terms, below};
 ghost use Rattle.summary_maximum.specs.Meeting.{met, meets, meets_below};
 
+use documents::Documents;
 use number_types::DocumentId;
 
 // Stores a value at a place if it is greater than what is there.
@@ -84,9 +86,7 @@ fn meet(
 // The same for the document with a number.
 fn meet_document(
     limit: usize,
-    offsets: &[u64],
-    components: &[u32],
-    values: &[f32],
+    documents: Documents<'_>,
     id: DocumentId,
     count: usize,
     keys: &mut [u64],
@@ -94,14 +94,14 @@ fn meet_document(
     maxima: &mut [f32],
 ) -> usize
     ensures { met result keys.new places.new maxima.new ≡ foldl (meets_below limit) (met count keys.old places.old maxima.old)
-        (terms (documents offsets.now components.now values.now) id.0) }
+        (terms (lent documents.entry) id.0) }
 {
-    let n = documents::term_count(components, values);
-    let range = documents::places(offsets, n, id);
+    let n = documents::term_count(documents.components, documents.values);
+    let range = documents::places(documents.offsets, n, id);
     meet(
         limit,
-        &components[range.from..range.to],
-        &values[range.from..range.to],
+        &documents.components[range.from..range.to],
+        &documents.values[range.from..range.to],
         count,
         keys,
         places,
@@ -115,23 +115,19 @@ fn meet_document(
 // pass over the block's terms; nothing is cleared before, whatever the buffers hold.
 pub fn gather(
     limit: usize,
-    offsets: &[u64],
-    components: &[u32],
-    values: &[f32],
+    documents: Documents<'_>,
     block: &[u64],
     keys: &mut [u64],
     places: &mut [u64],
     maxima: &mut [f32],
 ) -> usize
     ensures { met result keys.new places.new maxima.new ≡ foldl meets (met 0 keys.old places.old maxima.old)
-        (below limit (block_terms (documents offsets.now components.now values.now) block.now)) }
+        (below limit (block_terms (lent documents.entry) block.now)) }
 {
     let mut count = 0usize;
     for document in block {
         let id = DocumentId(*document);
-        count = meet_document(
-            limit, offsets, components, values, id, count, keys, places, maxima,
-        );
+        count = meet_document(limit, documents, id, count, keys, places, maxima);
     }
     count
 }

@@ -3,14 +3,16 @@
 
 ghost use Rattle.std.specs.Prelude.{◌≡◌, ◌≤◌, length};
 ghost use mathlib.Core.List.{map, zip_with};
-ghost use Rattle.documents.specs.Documents.{documents, sum};
+ghost use Rattle.documents.specs.Documents.{sum};
 ghost use Rattle.documents.specs.TermKeys.{value_of_term};
+ghost use Rattle.documents.specs.Lent.{lent};
 ghost use Rattle.summary_maximum.specs.Maximum.{block_terms, below};
 ghost use Rattle.summary_maximum.specs.Meeting.{met};
 ghost use Rattle.summary_terms.specs.Answers.{zero, limit_of, Summarizes};
 ghost use Rattle.summary_terms.specs.Steps.{key_of_pair, reached_by, kept_count, Finished, FinishedFirst};
 
 use configuration::SummarizationStrategy;
+use documents::Documents;
 
 // Joins each component with its maximum into one key.
 fn join_keys(keys: &mut [u64], maxima: &[f32])
@@ -108,9 +110,7 @@ fn limit_of(dimension: u64, keys: usize, places: usize, maxima: usize) -> usize
 // block and the sort of its components, not by the dimension.
 pub fn summarize(
     dimension: u64,
-    offsets: &[u64],
-    components: &[u32],
-    values: &[f32],
+    documents: Documents<'_>,
     block: &[u64],
     strategy: SummarizationStrategy,
     keys: &mut [u64],
@@ -118,12 +118,10 @@ pub fn summarize(
     maxima: &mut [f32],
 ) -> usize
     ensures { Summarizes strategy (below (limit_of dimension (length keys.old) (length places.old) (length maxima.old))
-        (block_terms (documents offsets.now components.now values.now) block.now))
+        (block_terms (lent documents.entry) block.now))
         keys.old places.old maxima.old result keys.new places.new maxima.new }
 {
     let limit = limit_of(dimension, keys.len(), places.len(), maxima.len());
-    let count = summary_maximum::gather(
-        limit, offsets, components, values, block, keys, places, maxima,
-    );
+    let count = summary_maximum::gather(limit, documents, block, keys, places, maxima);
     finish_first(count, keys, places, maxima, strategy)
 }

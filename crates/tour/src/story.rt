@@ -3,9 +3,11 @@
 use crate::pages::{self, Documents, Term};
 use crate::text::Hundredths;
 use configuration::{BlockingStrategy, SummarizationStrategy};
+use documents::Terms;
 use explain::{Fate, Turn};
 use packing::PackedPosting;
 use search_probe::Answer;
+use sparse_scores::summaries::Summaries;
 use std::io;
 
 // So many pages are kept, and so many terms in a block's summary.
@@ -211,15 +213,18 @@ fn tell_course(
 ) -> io::Result<()> {
     let count = postings.len() as u64;
     say_part(rt, "turns, the block of greatest score first", turns)?;
+    let query = Terms {
+        components: query_components,
+        values: query_values,
+    };
+    let terms = Terms { components, values };
     for t in 0..turns {
         let seen = explain_small::see_turn(
             t,
-            query_components,
-            query_values,
+            query,
             KEPT as u64,
             question.factor,
-            components,
-            values,
+            terms,
             postings,
             block_offsets,
             block_scores,
@@ -235,12 +240,10 @@ fn tell_course(
             let fate = explain_small::fate_of(
                 i,
                 turns,
-                query_components,
-                query_values,
+                query,
                 KEPT as u64,
                 question.factor,
-                components,
-                values,
+                terms,
                 postings,
                 block_offsets,
                 block_scores,
@@ -288,20 +291,20 @@ fn search_built(
     let mut block_scores = [0.0f32; ROOM];
     let mut block_order = [0u64; ROOM];
     let answer = search::sort_and_search(
-        &query_components,
-        &query_values,
+        Terms::new(&query_components, &query_values),
         KEPT as u64,
         question.factor,
-        components,
-        values,
+        Terms { components, values },
         postings,
         block_offsets,
-        summary_components,
-        component_offsets,
-        summary_ids,
-        codes,
-        minimums,
-        steps,
+        Summaries {
+            summary_components,
+            component_offsets,
+            summary_ids,
+            codes,
+            minimums,
+            steps,
+        },
         &mut length,
         &mut packed,
         &mut scores,
@@ -358,9 +361,7 @@ pub(crate) fn tell(rt: &impl Print, question: Question, documents: &Documents) -
         SummarizationStrategy::FixedSize {
             n_components: SUMMARY_TERMS,
         },
-        &documents.offsets,
-        &documents.components,
-        &documents.values,
+        documents::Documents::new(&documents.offsets, &documents.components, &documents.values),
         &ids[first..end],
         &[],
         &mut postings,

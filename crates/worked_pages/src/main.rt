@@ -2,11 +2,13 @@
 // crates/worked_cases/specs/Laws/Pages.antt, and then those that are only to be run.
 #![tactic(auto)]
 
+use documents::Terms;
 use kept_list::Scored;
 use number_types::RangeStart;
 use packing::PackedPosting;
 use refusal::Refusal;
 use search_probe::Answer;
+use sparse_scores::summaries::Summaries;
 use std::{fmt, io};
 
 // A value that is a whole number.
@@ -108,20 +110,20 @@ fn search_two_blocks(rt: &impl Print) -> io::Result<()> {
     let mut visits = [0u8; 3];
     let mut dots = [0.0f32; 2];
     let answer = search::search(
-        &[1u32],
-        &[1.0f32],
+        Terms::new(&[1], &[1.0]),
         1,
         0.5,
-        &components,
-        &values,
+        Terms::new(&components, &values),
         &postings,
         &[0u64, 1u64, 2u64],
-        &[1u32],
-        &[0u64, 2u64],
-        &[0u16, 1u16],
-        &[5u8, 4u8],
-        &[0.0f32, 0.0f32],
-        &[1.0f32, 1.0f32],
+        Summaries::new(
+            &[1u32],
+            &[0u64, 2u64],
+            &[0u16, 1u16],
+            &[5u8, 4u8],
+            &[0.0f32, 0.0f32],
+            &[1.0f32, 1.0f32],
+        ),
         &mut length,
         &mut packed,
         &mut scores,

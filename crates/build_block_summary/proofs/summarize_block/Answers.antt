@@ -1,6 +1,6 @@
 -- The part of the order that the places name is the block.
 use lib.ListN.{length}
-use Rattle.documents.specs.Documents.{documents}
+use Rattle.documents.specs.Lent.{lent}
 use Rattle.summary_terms.specs.Answers.{limit_of}
 use Rattle.build_block_summary.specs.Laws.Cuts.{places-ordered, places-inside, places-part}
 use Rattle.build_block_summary.specs.Laws.Kept.{block_same}
@@ -37,5 +37,5 @@ slice_bounds-summarize-end c =
 pub returns : goal.returns
 returns c =
     let a = c.args in let p = c.places_at-at in
-    block_same a.strategy (limit_of a.dimension (length a.keys.now) (length a.places.now) (length a.maxima.now)) (documents a.offsets.now a.components.now a.values.now) _ _
+    block_same a.strategy (limit_of a.dimension (length a.keys.now) (length a.places.now) (length a.maxima.now)) (lent a.documents) _ _
     (places-part a.blocks.now a.order.now a.number.0 p.result p.ensures) a.keys.now a.places.now a.maxima.now _ _ _ _ c.summarize.ensures

@@ -4,7 +4,7 @@ use native.Mathlib.Omega.{arith}
 use mathlib.Core.Path.{sym, ap, ◌∙◌}
 use lib.ListN.{length}
 use lib.Seq.{length-take-le}
-use Rattle.documents.specs.Documents.{documents}
+use Rattle.documents.specs.Lent.{lent}
 use Rattle.scratch.specs.Scratches.{scratches}
 use Rattle.build_blocks.proofs.Lending.{clusters-made}
 use Rattle.build_blocks.proofs.by_clusters.Goals as goal
@@ -27,7 +27,7 @@ returns c =
     let f = c.cluster in
     clusters-made
     (scratches a.order.now a.blocks.now a.sorted.now a.known.now a.taken.now a.counts.now a.starts.now a.slots.now a.weights.now a.sums.now a.keys.now)
-    (documents a.offsets.now a.components.now a.values.now) a.ids.now a.centroids.now c.requires c.min-counted.result c.min-scored.result c.min-keyed.result
+    (lent a.documents) a.ids.now a.centroids.now c.requires c.min-counted.result c.min-scored.result c.min-keyed.result
     c.min-counted.ensures c.min-scored.ensures (c.min-keyed.ensures ∙ ap (λ n. min n (length a.keys.now)) c.longest-most.ensures)
     a.algorithm a.minimum f.result
     (scratches f.new.order f.new.blocks

@@ -1,11 +1,11 @@
 -- `longest` answers the greatest count of terms. The loop's invariant: the most so far, or the longest of those left, is the longest of all.
-use Rattle.documents.specs.Documents.{documents}
+use Rattle.documents.specs.Lent.{lent}
 use Rattle.build_blocks.proofs.Lending.{longest-start, longest-step, longest-end}
 use Rattle.build_blocks.proofs.longest.Goals as goal
 
 pub loop-id-init : goal.loop-id-init
 loop-id-init c =
-    let a = c.args in longest-start (documents a.offsets.now a.components.now a.values.now) a.ids.now
+    let a = c.args in longest-start (lent a.documents) a.ids.now
 
 pub overflow_sub-p : goal.overflow_sub-p
 overflow_sub-p c = c.places_of-p.ensures.ordered
@@ -14,10 +14,10 @@ pub loop-id-preserved : goal.loop-id-preserved
 loop-id-preserved c =
     let a = c.args in
     let l = c.loop-id in
-    longest-step (documents a.offsets.now a.components.now a.values.now) a.ids.now l.id-index l.most _ _ c.loop-id-test.true c.places_of-p.ensures
+    longest-step (lent a.documents) a.ids.now l.id-index l.most _ _ c.loop-id-test.true c.places_of-p.ensures
     c.max-most.ensures l.invariant
 
 pub returns : goal.returns
 returns c =
     let a = c.args in
-    let l = c.loop-id in longest-end (documents a.offsets.now a.components.now a.values.now) a.ids.now l.id-index l.most c.loop-id-test.false l.invariant
+    let l = c.loop-id in longest-end (lent a.documents) a.ids.now l.id-index l.most c.loop-id-test.false l.invariant

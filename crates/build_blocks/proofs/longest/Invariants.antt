@@ -2,9 +2,9 @@
 use Prim.Native.Nat.{max}
 use mathlib.Core.Path.{◌≡◌}
 use lib.ListN.{drop}
-use Rattle.documents.specs.Documents.{documents}
+use Rattle.documents.specs.Lent.{lent}
 use Rattle.build_blocks.specs.Longest.{longest_of}
 use Rattle.build_blocks.proofs.longest.Given as goal
 
 abbrev pub invariant-loop-id : goal.invariant-loop-id
-invariant-loop-id l = max l.most (longest_of (documents l.offsets l.components l.values) (drop l.id-index l.ids)) ≡ longest_of (documents l.offsets l.components l.values) l.ids
+invariant-loop-id l = max l.most (longest_of (lent l.documents) (drop l.id-index l.ids)) ≡ longest_of (lent l.documents) l.ids

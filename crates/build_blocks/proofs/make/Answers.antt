@@ -1,6 +1,6 @@
 -- `make` leaves what its definition says: refused, by a fixed size, or by clusters.
 use mathlib.Core.Path.{◌∙◌}
-use Rattle.documents.specs.Documents.{documents}
+use Rattle.documents.specs.Lent.{lent}
 use Rattle.build_meaning.specs.Building.{scratches}
 use Rattle.build_blocks.proofs.Making.{refused-made, cut_fits, cut-made, group-fits, group-made}
 use Rattle.refusal.specs.Laws.First.{handed-up}
@@ -43,7 +43,7 @@ pub returns-in_err-ready : goal.returns-in_err-ready
 returns-in_err-ready c =
     let a = c.args in
     rw (handed-up c.from_residual.result _ c.from_residual.ensures.1)
-    (refused-made a.dimension a.blocking (documents a.offsets.now a.components.now a.values.now) a.ids.now a.centroids.now
+    (refused-made a.dimension a.blocking (lent a.documents) a.ids.now a.centroids.now
     (scratches a.order.now a.blocks.now a.sorted.now a.known.now a.taken.now a.counts.now a.starts.now a.slots.now a.weights.now
     a.sums.now a.keys.now) c.ready.result c.ready.ensures.answer
     (scratches c.ready.new.order c.ready.new.blocks c.ready.new.sorted
@@ -56,7 +56,7 @@ returns-in_err-ready c =
 pub cut-requires : goal.cut-requires
 cut-requires c =
     let a = c.args in
-    cut_fits a.dimension a.blocking (documents a.offsets.now a.components.now a.values.now) a.ids.now a.centroids.now
+    cut_fits a.dimension a.blocking (lent a.documents) a.ids.now a.centroids.now
     (scratches a.order.now a.blocks.now a.sorted.now a.known.now a.taken.now a.counts.now a.starts.now a.slots.now a.weights.now
     a.sums.now a.keys.now) c.ready.result c.ready.ensures.answer c.in_ok-ready.was
     (scratches c.ready.new.order c.ready.new.blocks c.ready.new.sorted
@@ -69,7 +69,7 @@ cut-requires c =
 pub by_clusters-requires : goal.by_clusters-requires
 by_clusters-requires c =
     let a = c.args in
-    group-fits a.dimension a.blocking (documents a.offsets.now a.components.now a.values.now) a.ids.now a.centroids.now
+    group-fits a.dimension a.blocking (lent a.documents) a.ids.now a.centroids.now
     (scratches a.order.now a.blocks.now a.sorted.now a.known.now a.taken.now a.counts.now a.starts.now a.slots.now a.weights.now
     a.sums.now a.keys.now) c.ready.result c.ready.ensures.answer c.in_ok-ready.was
     (scratches c.ready.new.order c.ready.new.blocks c.ready.new.sorted
@@ -77,7 +77,7 @@ by_clusters-requires c =
     c.ready.new.counts c.ready.new.starts
     c.ready.new.slots c.ready.new.weights
     c.ready.new.sums c.ready.new.keys)
-    c.ready.ensures.scratch _ _ _ c.in-RandomKmeans.is c.well_formed.1.1.1.1.1.0.0 c.well_formed.1.1.1.1.1.1.1.1.1.1.1.1.1.1.0.0
+    c.ready.ensures.scratch _ _ _ c.in-RandomKmeans.is c.well_formed.1.1.1.0.0 c.well_formed.1.1.1.1.1.1.1.1.1.1.1.1.0.0
 
 pub shape_of-order-in-FixedSize : goal.shape_of-order-in-FixedSize
 shape_of-order-in-FixedSize c =
@@ -126,7 +126,7 @@ shape_of-keys-in-FixedSize c =
 pub returns-in-FixedSize : goal.returns-in-FixedSize
 returns-in-FixedSize c =
     let a = c.args in
-    cut-made a.dimension a.blocking (documents a.offsets.now a.components.now a.values.now) a.ids.now a.centroids.now
+    cut-made a.dimension a.blocking (lent a.documents) a.ids.now a.centroids.now
     (scratches a.order.now a.blocks.now a.sorted.now a.known.now a.taken.now a.counts.now a.starts.now a.slots.now a.weights.now
     a.sums.now a.keys.now) c.ready.result c.ready.ensures.answer c.in_ok-ready.was
     (scratches c.ready.new.order c.ready.new.blocks c.ready.new.sorted
@@ -183,7 +183,7 @@ shape_of-keys-in-RandomKmeans c =
 pub returns-in-RandomKmeans : goal.returns-in-RandomKmeans
 returns-in-RandomKmeans c =
     let a = c.args in
-    group-made a.dimension a.blocking (documents a.offsets.now a.components.now a.values.now) a.ids.now a.centroids.now
+    group-made a.dimension a.blocking (lent a.documents) a.ids.now a.centroids.now
     (scratches a.order.now a.blocks.now a.sorted.now a.known.now a.taken.now a.counts.now a.starts.now a.slots.now a.weights.now
     a.sums.now a.keys.now) c.ready.result c.ready.ensures.answer c.in_ok-ready.was
     (scratches c.ready.new.order c.ready.new.blocks c.ready.new.sorted

@@ -1,7 +1,7 @@
 -- The blocks noted, and the work space cleared.
 use mathlib.Core.Path.{◌∙◌}
 use lib.ListN.{length}
-use Rattle.documents.specs.Documents.{documents}
+use Rattle.documents.specs.Lent.{lent}
 use Rattle.summary_terms.specs.Answers.{limit_of}
 use Rattle.build_block_summary.specs.Blocks.{tops}
 use Rattle.build_count_pass.specs.Turns.{noted}
@@ -21,7 +21,7 @@ returns c =
     let a = c.args in
     let t = c.count_blocks-full in let w = c.clear_work in
     let n = limit_of a.dimension (length a.keys.now) (length a.places.now) (length a.maxima.now) in
-    let all = tops n a.strategy (documents a.offsets.now a.components.now a.values.now) a.order.now a.blocks.now in record {
+    let all = tops n a.strategy (lent a.documents) a.order.now a.blocks.now in record {
       answer = t.ensures.answer;
       left = left-all all a.keys.now a.places.now a.maxima.now a.entry_counts.now a.minimums.now a.steps.now
           t.new.keys w.new.keys t.new.places w.new.places t.new.maxima w.new.maxima

@@ -3,7 +3,7 @@ use native.Mathlib.Omega.{arith}
 use Prim.Native.Nat.{◌+◌, ◌<◌}
 use mathlib.Core.Path.{refl, ◌∙◌}
 use lib.ListN.{length, drop}
-use Rattle.documents.specs.Documents.{documents}
+use Rattle.documents.specs.Lent.{lent as lent_documents}
 use Rattle.summary_terms.specs.Answers.{limit_of}
 use Rattle.sparse_layout.specs.Keys.{lent}
 use Rattle.build_block_summary.specs.Laws.Cuts.{tops_next, tops-none, limit-same}
@@ -18,7 +18,7 @@ pub loop-b-preserved : goal.loop-b-preserved
 loop-b-preserved c =
     let l = c.loop-b in let a = c.args in
     let taken : l.b + 1 < length a.blocks.now = omega arith in
-    let d = documents a.offsets.now a.components.now a.values.now in
+    let d = lent_documents a.documents in
     let n = limit_of a.dimension (length a.keys.now) (length a.places.now) (length a.maxima.now) in
     let e = tops_next a.blocks.now a.order.now l.b n a.strategy d taken _ (limit-same a.dimension (length a.keys.now) (length a.places.now) (length a.maxima.now) (length l.keys) (length l.places) (length l.maxima) l.invariant.0 l.invariant.1 l.invariant.2) in
     let t = c.fill_next-at in let kept = t.auto in (
@@ -34,6 +34,6 @@ loop-b-preserved c =
 pub returns : goal.returns
 returns c =
     let l = c.loop-b in let a = c.args in
-    let d = documents a.offsets.now a.components.now a.values.now in
+    let d = lent_documents a.documents in
     let n = limit_of a.dimension (length a.keys.now) (length a.places.now) (length a.maxima.now) in
     rest_end l.b _ _ (lent l.cursors l.summary_ids l.codes) _ (recalled-none (drop l.at a.store.now) _ (tops-none a.blocks.now a.order.now l.b n a.strategy d (omega arith))) l.invariant.6

@@ -1,6 +1,6 @@
 -- `write` meets its contract: measured, and settled, and the store cleared.
 use mathlib.Core.Path.{◌∙◌}
-use Rattle.documents.specs.Documents.{documents}
+use Rattle.documents.specs.Lent.{lent}
 use Rattle.build_meaning.specs.Building.{outputs, output_lengths}
 use Rattle.build_layout.specs.Laid.{left}
 use Rattle.build_layout.proofs.Wrote.{same-zeros, wrote}
@@ -62,7 +62,7 @@ pub returns : goal.returns
 unfolding output_lengths
 returns c =
     let a = c.args in record {
-      left = wrote a.dimension a.strategy (documents a.offsets.now a.components.now a.values.now) a.order.now a.blocks.now a.keys.now a.places.now
+      left = wrote a.dimension a.strategy (lent a.documents) a.order.now a.blocks.now a.keys.now a.places.now
           a.maxima.now a.entry_counts.now (outputs a.postings.now a.block_offsets.now a.summary_components.now a.component_offsets.now a.summary_ids.now
           a.codes.now a.minimums.now a.steps.now)
           c.measure-answer.new.keys c.measure-answer.new.places c.measure-answer.new.maxima
@@ -71,7 +71,7 @@ returns c =
           c.measure-answer.auto.places c.measure-answer.auto.maxima
           c.measure-answer.auto.entry_counts c.measure-answer.auto.minimums
           c.measure-answer.auto.steps c.measure-answer.result c.measure-answer.ensures.left
-          (λ k. (c.shared_slice_known-2-1.given k).fits) (λ k. c.shared_slice_known-3-1.given k) a.store.now c.measure-answer.new.store c.measure-answer.ensures.store
+          c.args.documents.narrow c.args.documents.fit a.store.now c.measure-answer.new.store c.measure-answer.ensures.store
           (left c.settle-settled.result (outputs c.settle-settled.new.postings c.settle-settled.new.block_offsets
           c.settle-settled.new.summary_components c.settle-settled.new.component_offsets
           c.settle-settled.new.summary_ids c.settle-settled.new.codes

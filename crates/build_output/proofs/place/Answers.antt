@@ -1,5 +1,5 @@
 -- `place` leaves what the second pass leaves, and its work space zero.
-use Rattle.documents.specs.Documents.{documents}
+use Rattle.documents.specs.Lent.{lent as lent_documents}
 use Rattle.sparse_layout.specs.Keys.{lent}
 use Rattle.build_fill_pass.specs.Filling.{filling}
 use Rattle.sequences.specs.Laws.Lists.{least-long, least-count}
@@ -65,20 +65,20 @@ shape_of-codes c =
 pub returns : goal.returns
 returns c =
     let a = c.args in
-    let output = passed a.dimension c.min-n.result a.strategy (documents a.offsets.now a.components.now a.values.now) a.order.now a.blocks.now
+    let output = passed a.dimension c.min-n.result a.strategy (lent_documents a.documents) a.order.now a.blocks.now
     a.store.now a.keys.now a.places.now a.maxima.now a.entry_counts.now c.lay.new.entry_counts (written a.postings.now a.block_offsets.now a.summary_components.now a.component_offsets.now
     a.summary_ids.now a.codes.now) c.min-n.ensures c.lay.auto.entry_counts c.lay.ensures.entry_counts (filling c.fill.new.keys c.fill.new.places c.fill.new.maxima (lent c.fill.new.cursors
     c.fill.new.summary_ids c.fill.new.codes)) c.fill.ensures c.write_postings.new.postings c.write_offsets.new.block_offsets c.lay.new.summary_components c.lay.new.component_offsets c.write_postings.ensures
     c.write_offsets.ensures c.lay.ensures.summary_components c.lay.ensures.component_offsets in
-    let keys = passed-keys a.dimension c.min-n.result a.strategy (documents a.offsets.now a.components.now a.values.now) a.order.now a.blocks.now
+    let keys = passed-keys a.dimension c.min-n.result a.strategy (lent_documents a.documents) a.order.now a.blocks.now
     a.store.now a.keys.now a.places.now a.maxima.now a.entry_counts.now c.lay.new.entry_counts (written a.postings.now a.block_offsets.now a.summary_components.now a.component_offsets.now
     a.summary_ids.now a.codes.now) c.min-n.ensures c.lay.auto.entry_counts c.lay.ensures.entry_counts (filling c.fill.new.keys c.fill.new.places c.fill.new.maxima (lent c.fill.new.cursors
     c.fill.new.summary_ids c.fill.new.codes)) c.fill.ensures in
-    let places = passed-places a.dimension c.min-n.result a.strategy (documents a.offsets.now a.components.now a.values.now) a.order.now a.blocks.now
+    let places = passed-places a.dimension c.min-n.result a.strategy (lent_documents a.documents) a.order.now a.blocks.now
     a.store.now a.keys.now a.places.now a.maxima.now a.entry_counts.now c.lay.new.entry_counts (written a.postings.now a.block_offsets.now a.summary_components.now a.component_offsets.now
     a.summary_ids.now a.codes.now) c.min-n.ensures c.lay.auto.entry_counts c.lay.ensures.entry_counts (filling c.fill.new.keys c.fill.new.places c.fill.new.maxima (lent c.fill.new.cursors
     c.fill.new.summary_ids c.fill.new.codes)) c.fill.ensures in
-    let maxima = passed-maxima a.dimension c.min-n.result a.strategy (documents a.offsets.now a.components.now a.values.now) a.order.now a.blocks.now
+    let maxima = passed-maxima a.dimension c.min-n.result a.strategy (lent_documents a.documents) a.order.now a.blocks.now
     a.store.now a.keys.now a.places.now a.maxima.now a.entry_counts.now c.lay.new.entry_counts (written a.postings.now a.block_offsets.now a.summary_components.now a.component_offsets.now
     a.summary_ids.now a.codes.now) c.min-n.ensures c.lay.auto.entry_counts c.lay.ensures.entry_counts (filling c.fill.new.keys c.fill.new.places c.fill.new.maxima (lent c.fill.new.cursors
     c.fill.new.summary_ids c.fill.new.codes)) c.fill.ensures in

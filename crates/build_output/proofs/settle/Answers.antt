@@ -1,6 +1,6 @@
 -- `settle` leaves what is said of its answer: refused, cleared; else what the second pass leaves.
 use mathlib.Core.Path.{refl}
-use Rattle.documents.specs.Documents.{documents}
+use Rattle.documents.specs.Lent.{lent}
 use Rattle.build_meaning.specs.Building.{outputs}
 use Rattle.build_output.specs.Placed.{written}
 use Rattle.build_output.proofs.Ended.{settled-refused, settled-built}
@@ -45,7 +45,7 @@ shape_of-entry_counts-in-Err c = c.clear_work.auto.counts
 pub returns-in-Err : goal.returns-in-Err
 returns-in-Err c =
     let a = c.args in
-    settled-refused a.dimension a.strategy (documents a.offsets.now a.components.now a.values.now) a.order.now a.blocks.now a.store.now
+    settled-refused a.dimension a.strategy (lent a.documents) a.order.now a.blocks.now a.store.now
     (outputs a.postings.now a.block_offsets.now a.summary_components.now a.component_offsets.now a.summary_ids.now a.codes.now a.minimums.now
     a.steps.now)
     (outputs c.clear_output.new.postings
@@ -94,7 +94,7 @@ shape_of-entry_counts-in-Ok c = c.place.auto.entry_counts
 pub returns-in-Ok : goal.returns-in-Ok
 returns-in-Ok c =
     let a = c.args in
-    settled-built a.dimension a.strategy (documents a.offsets.now a.components.now a.values.now) a.order.now a.blocks.now a.store.now
+    settled-built a.dimension a.strategy (lent a.documents) a.order.now a.blocks.now a.store.now
     (outputs a.postings.now a.block_offsets.now a.summary_components.now a.component_offsets.now a.summary_ids.now a.codes.now a.minimums.now
     a.steps.now)
     (outputs c.place.new.postings

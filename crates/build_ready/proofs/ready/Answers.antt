@@ -1,5 +1,5 @@
 -- `ready` judges what there is before blocks are made, and leaves zeros.
-use Rattle.documents.specs.Documents.{documents}
+use Rattle.documents.specs.Lent.{lent}
 use Rattle.build_meaning.specs.Building.{scratches, scratch_lengths}
 use Rattle.build_ready.proofs.Laws.{under-8, under-4, judged}
 use Rattle.build_ready.proofs.ready.Goals as goal
@@ -41,26 +41,26 @@ pub returns : goal.returns
 unfolding scratch_lengths
 returns c =
     let a = c.args in record {
-      answer = judged a.dimension a.blocking (documents a.offsets.now a.components.now a.values.now) a.ids.now a.centroids.now
+      answer = judged a.dimension a.blocking (lent a.documents) a.ids.now a.centroids.now
           (scratches a.order.now a.blocks.now a.sorted.now a.known.now a.taken.now a.counts.now a.starts.now a.slots.now a.weights.now
           a.sums.now a.keys.now)
           (record {
-            order = under-8 _ c.well_formed.1.1.1.1.1.1.1.0.1;
-            blocks = under-8 _ c.well_formed.1.1.1.1.1.1.1.1.0.1;
+            order = under-8 _ c.well_formed.1.1.1.1.1.0.1;
+            blocks = under-8 _ c.well_formed.1.1.1.1.1.1.0.1;
             sorted = under-8 _
-                c.well_formed.1.1.1.1.1.1.1.1.1.0.1;
-            known = under-8 _ c.well_formed.1.1.1.1.1.1.1.1.1.1.0.1;
+                c.well_formed.1.1.1.1.1.1.1.0.1;
+            known = under-8 _ c.well_formed.1.1.1.1.1.1.1.1.0.1;
             taken = under-8 _
-                c.well_formed.1.1.1.1.1.1.1.1.1.1.1.0.1;
-            counts = under-8 _ c.well_formed.1.1.1.1.1.1.1.1.1.1.1.1.0.1;
+                c.well_formed.1.1.1.1.1.1.1.1.1.0.1;
+            counts = under-8 _ c.well_formed.1.1.1.1.1.1.1.1.1.1.0.1;
             starts = under-8 _
-                c.well_formed.1.1.1.1.1.1.1.1.1.1.1.1.1.0.1;
-            slots = under-8 _ c.well_formed.1.1.1.1.1.1.1.1.1.1.1.1.1.1.0.1;
+                c.well_formed.1.1.1.1.1.1.1.1.1.1.1.0.1;
+            slots = under-8 _ c.well_formed.1.1.1.1.1.1.1.1.1.1.1.1.0.1;
             weights = under-4 _
-                c.well_formed.1.1.1.1.1.1.1.1.1.1.1.1.1.1.1.0.1;
-            sums = under-4 _ c.well_formed.1.1.1.1.1.1.1.1.1.1.1.1.1.1.1.1.0.1;
+                c.well_formed.1.1.1.1.1.1.1.1.1.1.1.1.1.0.1;
+            sums = under-4 _ c.well_formed.1.1.1.1.1.1.1.1.1.1.1.1.1.1.0.1;
             keys
-                = under-8 _ c.well_formed.1.1.1.1.1.1.1.1.1.1.1.1.1.1.1.1.1.0.1;
+                = under-8 _ c.well_formed.1.1.1.1.1.1.1.1.1.1.1.1.1.1.1.0.1;
           })
           c.judge-verdict.result c.judge-verdict.ensures;
       scratch = c.clear_scratch.ensures;

@@ -1,15 +1,15 @@
 -- `finish` meets its contract: the result is written and what it was read from is cleared, or all output is.
-use Rattle.documents.specs.Documents.{documents}
+use Rattle.documents.specs.Lent.{lent}
 use Rattle.build_meaning.specs.Building.{outputs}
 use Rattle.sequences.specs.Laws.Lists.{least-long, least-count}
 use Rattle.build_result.proofs.Laws.{refused_end, written-end, slots-refused, slots-cleared}
 use Rattle.build_result.proofs.finish.Goals as goal
 
 pub slice_bounds-write-end : goal.slice_bounds-write-end
-slice_bounds-write-end c = least-long _ _ _ c.min-documents.ensures
+slice_bounds-write-end c = least-long _ _ _ c.min-ordered.ensures
 
 pub slice_bounds-write-end-in-Ok : goal.slice_bounds-write-end-in-Ok
-slice_bounds-write-end-in-Ok c = let a = c.args in least-count a.order.now _ _ c.min-documents.ensures
+slice_bounds-write-end-in-Ok c = let a = c.args in least-count a.order.now _ _ c.min-ordered.ensures
 
 pub slice_bounds-write-end-in-Ok-2 : goal.slice_bounds-write-end-in-Ok-2
 slice_bounds-write-end-in-Ok-2 c = least-long _ _ _ c.min-starting.ensures
@@ -44,7 +44,7 @@ shape_of-steps-in-Err c = c.clear_output.auto.steps
 pub returns-in-Err : goal.returns-in-Err
 returns-in-Err c =
     let a = c.args in record {
-      left = refused_end a.made a.dimension a.summarization (documents a.offsets.now a.components.now a.values.now) a.listed
+      left = refused_end a.made a.dimension a.summarization (lent a.documents) a.listed
           (outputs a.postings.now a.block_offsets.now a.summary_components.now a.component_offsets.now a.summary_ids.now a.codes.now a.minimums.now
           a.steps.now) a.order.now a.blocks.now a.keys.now a.counts.now a.sums.now a.starts.now _
           (outputs c.clear_output.new.postings c.clear_output.new.block_offsets c.clear_output.new.summary_components
@@ -102,10 +102,10 @@ shape_of-slots c = c.write-answer.auto.store
 pub returns-in-Ok : goal.returns-in-Ok
 returns-in-Ok c =
     let a = c.args in record {
-      left = written-end a.made a.dimension a.summarization (documents a.offsets.now a.components.now a.values.now) a.listed
+      left = written-end a.made a.dimension a.summarization (lent a.documents) a.listed
           (outputs a.postings.now a.block_offsets.now a.summary_components.now a.component_offsets.now a.summary_ids.now a.codes.now a.minimums.now
           a.steps.now) a.order.now a.blocks.now a.keys.now a.counts.now a.sums.now a.starts.now _ _ _ c.in-Ok.is
-          c.min-documents.ensures c.min-starting.ensures c.write-answer.result
+          c.min-ordered.ensures c.min-starting.ensures c.write-answer.result
           (outputs c.write-answer.new.postings c.write-answer.new.block_offsets c.write-answer.new.summary_components
           c.write-answer.new.component_offsets c.write-answer.new.summary_ids
           c.write-answer.new.codes c.write-answer.new.minimums

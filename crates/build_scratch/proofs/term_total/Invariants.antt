@@ -4,9 +4,10 @@ use mathlib.Core.Path.{◌≡◌}
 use mathlib.Core.List.{map}
 use lib.ListN.{length, drop}
 use Rattle.sequences.specs.Lists.{joined}
-use Rattle.documents.specs.Documents.{documents, terms}
+use Rattle.documents.specs.Documents.{terms}
+use Rattle.documents.specs.Lent.{lent}
 use Rattle.build_scratch.specs.Lengths.{capped}
 use Rattle.build_scratch.proofs.term_total.Given as goal
 
 abbrev pub invariant-loop-id : goal.invariant-loop-id
-invariant-loop-id l = (l.total < 18446744073709551616) × (capped (l.total + length (joined (map (terms (documents l.offsets l.components l.values)) (drop l.id-index l.listed)))) ≡ capped (length (joined (map (terms (documents l.offsets l.components l.values)) l.listed))))
+invariant-loop-id l = (l.total < 18446744073709551616) × (capped (l.total + length (joined (map (terms (lent l.documents)) (drop l.id-index l.listed)))) ≡ capped (length (joined (map (terms (lent l.documents)) l.listed))))

@@ -1,7 +1,7 @@
 -- The work judged, the entries counted, the room judged.
 use mathlib.Core.Path.{sym}
 use lib.Seq.{length-take-le}
-use Rattle.documents.specs.Documents.{documents}
+use Rattle.documents.specs.Lent.{lent}
 use Rattle.build_count_pass.specs.Counting.{counting}
 use Rattle.build_sizes.proofs.Measured.{measured-refused, stored_refused, roomy, stored, measured-empty, measured}
 use Rattle.build_sizes.specs.Laws.Fronts.{front_long, front-count}
@@ -12,19 +12,19 @@ pub returns-in_err-judge_work : goal.returns-in_err-judge_work
 returns-in_err-judge_work c =
     let a = c.args in let j = c.judge_work in
     rw (handed-up c.from_residual.result _ c.from_residual.ensures.1) (record {
-      left = measured-refused a.dimension a.strategy (documents a.offsets.now a.components.now a.values.now) a.order.now a.blocks.now (counting a.keys.now a.places.now a.maxima.now a.entry_counts.now a.minimums.now a.steps.now) a.lent j.result j.ensures _ c.in_err-judge_work.was;
-      store = stored_refused a.dimension a.strategy (documents a.offsets.now a.components.now a.values.now) a.order.now a.blocks.now (counting a.keys.now a.places.now a.maxima.now a.entry_counts.now a.minimums.now a.steps.now) a.lent j.result j.ensures _ c.in_err-judge_work.was a.store.now;
+      left = measured-refused a.dimension a.strategy (lent a.documents) a.order.now a.blocks.now (counting a.keys.now a.places.now a.maxima.now a.entry_counts.now a.minimums.now a.steps.now) a.lent j.result j.ensures _ c.in_err-judge_work.was;
+      store = stored_refused a.dimension a.strategy (lent a.documents) a.order.now a.blocks.now (counting a.keys.now a.places.now a.maxima.now a.entry_counts.now a.minimums.now a.steps.now) a.lent j.result j.ensures _ c.in_err-judge_work.was a.store.now;
     })
 
 pub slice_bounds-count-end : goal.slice_bounds-count-end
 slice_bounds-count-end c =
     let a = c.args in let j = c.judge_work in
-    (roomy a.dimension a.strategy (documents a.offsets.now a.components.now a.values.now) a.order.now a.blocks.now (counting a.keys.now a.places.now a.maxima.now a.entry_counts.now a.minimums.now a.steps.now) a.lent j.result j.ensures c.in_ok-judge_work.was).3
+    (roomy a.dimension a.strategy (lent a.documents) a.order.now a.blocks.now (counting a.keys.now a.places.now a.maxima.now a.entry_counts.now a.minimums.now a.steps.now) a.lent j.result j.ensures c.in_ok-judge_work.was).3
 
 pub slice_bounds-count-end-2 : goal.slice_bounds-count-end-2
 slice_bounds-count-end-2 c =
     let a = c.args in let j = c.judge_work in
-    sym (length-take-le _ _ (roomy a.dimension a.strategy (documents a.offsets.now a.components.now a.values.now) a.order.now a.blocks.now (counting a.keys.now a.places.now a.maxima.now a.entry_counts.now a.minimums.now a.steps.now) a.lent j.result j.ensures c.in_ok-judge_work.was).3)
+    sym (length-take-le _ _ (roomy a.dimension a.strategy (lent a.documents) a.order.now a.blocks.now (counting a.keys.now a.places.now a.maxima.now a.entry_counts.now a.minimums.now a.steps.now) a.lent j.result j.ensures c.in_ok-judge_work.was).3)
 
 pub shape_of-keys-then-not-full : goal.shape_of-keys-then-not-full
 shape_of-keys-then-not-full c =
@@ -53,21 +53,21 @@ shape_of-store-then-not-full c =
 pub returns-then-not-full : goal.returns-then-not-full
 returns-then-not-full c =
     let a = c.args in let j = c.judge_work in let t = c.count-full in record {
-      left = measured-empty a.dimension a.strategy (documents a.offsets.now a.components.now a.values.now) a.order.now a.blocks.now (counting a.keys.now a.places.now a.maxima.now a.entry_counts.now a.minimums.now a.steps.now) a.lent j.result j.ensures c.in_ok-judge_work.was t.result t.ensures.answer t.new.keys
+      left = measured-empty a.dimension a.strategy (lent a.documents) a.order.now a.blocks.now (counting a.keys.now a.places.now a.maxima.now a.entry_counts.now a.minimums.now a.steps.now) a.lent j.result j.ensures c.in_ok-judge_work.was t.result t.ensures.answer t.new.keys
           t.new.places t.new.maxima t.new.entry_counts t.new.minimums t.new.steps t.ensures.left c.if-not-full.true-raw;
-      store = stored a.dimension a.strategy (documents a.offsets.now a.components.now a.values.now) a.order.now a.blocks.now (counting a.keys.now a.places.now a.maxima.now a.entry_counts.now a.minimums.now a.steps.now) a.lent j.result j.ensures c.in_ok-judge_work.was a.store.now _ t.ensures.store;
+      store = stored a.dimension a.strategy (lent a.documents) a.order.now a.blocks.now (counting a.keys.now a.places.now a.maxima.now a.entry_counts.now a.minimums.now a.steps.now) a.lent j.result j.ensures c.in_ok-judge_work.was a.store.now _ t.ensures.store;
     }
 
 pub slice_bounds-judge_room-end : goal.slice_bounds-judge_room-end
 slice_bounds-judge_room-end c =
     let a = c.args in let j = c.judge_work in let t = c.count-full in
-    front_long a.entry_counts.now t.new.entry_counts a.dimension (roomy a.dimension a.strategy (documents a.offsets.now a.components.now a.values.now) a.order.now a.blocks.now (counting a.keys.now a.places.now a.maxima.now a.entry_counts.now a.minimums.now a.steps.now) a.lent j.result j.ensures
+    front_long a.entry_counts.now t.new.entry_counts a.dimension (roomy a.dimension a.strategy (lent a.documents) a.order.now a.blocks.now (counting a.keys.now a.places.now a.maxima.now a.entry_counts.now a.minimums.now a.steps.now) a.lent j.result j.ensures
     c.in_ok-judge_work.was).3 t.auto.entry_counts
 
 pub slice_bounds-judge_room-end-2 : goal.slice_bounds-judge_room-end-2
 slice_bounds-judge_room-end-2 c =
     let a = c.args in let j = c.judge_work in let t = c.count-full in
-    front-count a.entry_counts.now t.new.entry_counts a.dimension (roomy a.dimension a.strategy (documents a.offsets.now a.components.now a.values.now) a.order.now a.blocks.now (counting a.keys.now a.places.now a.maxima.now a.entry_counts.now a.minimums.now a.steps.now) a.lent j.result j.ensures
+    front-count a.entry_counts.now t.new.entry_counts a.dimension (roomy a.dimension a.strategy (lent a.documents) a.order.now a.blocks.now (counting a.keys.now a.places.now a.maxima.now a.entry_counts.now a.minimums.now a.steps.now) a.lent j.result j.ensures
     c.in_ok-judge_work.was).3 t.auto.entry_counts
 
 pub shape_of-keys : goal.shape_of-keys
@@ -97,7 +97,7 @@ shape_of-store c =
 pub returns : goal.returns
 returns c =
     let a = c.args in let j = c.judge_work in let t = c.count-full in record {
-      left = measured a.dimension a.strategy (documents a.offsets.now a.components.now a.values.now) a.order.now a.blocks.now (counting a.keys.now a.places.now a.maxima.now a.entry_counts.now a.minimums.now a.steps.now) a.lent j.result j.ensures c.in_ok-judge_work.was t.result t.ensures.answer t.new.keys
+      left = measured a.dimension a.strategy (lent a.documents) a.order.now a.blocks.now (counting a.keys.now a.places.now a.maxima.now a.entry_counts.now a.minimums.now a.steps.now) a.lent j.result j.ensures c.in_ok-judge_work.was t.result t.ensures.answer t.new.keys
           t.new.places t.new.maxima t.new.entry_counts t.new.minimums t.new.steps t.ensures.left c.if-not-full.false-raw t.auto.entry_counts c.judge_room.result c.judge_room.ensures;
-      store = stored a.dimension a.strategy (documents a.offsets.now a.components.now a.values.now) a.order.now a.blocks.now (counting a.keys.now a.places.now a.maxima.now a.entry_counts.now a.minimums.now a.steps.now) a.lent j.result j.ensures c.in_ok-judge_work.was a.store.now _ t.ensures.store;
+      store = stored a.dimension a.strategy (lent a.documents) a.order.now a.blocks.now (counting a.keys.now a.places.now a.maxima.now a.entry_counts.now a.minimums.now a.steps.now) a.lent j.result j.ensures c.in_ok-judge_work.was a.store.now _ t.ensures.store;
     }

@@ -1,5 +1,5 @@
 -- `build` makes what `posting_list::build` makes with the short scratch.
-use Rattle.documents.specs.Documents.{documents}
+use Rattle.documents.specs.Lent.{lent}
 use Rattle.build_meaning.specs.Built.{input}
 use Rattle.build_meaning.specs.Building.{outputs}
 use Rattle.build_small.proofs.Laws.{short-made}
@@ -32,6 +32,6 @@ shape_of-steps c = c.build.auto.steps
 pub returns : goal.returns
 returns c =
     let a = c.args in
-    short-made (input a.dimension a.blocking a.summarization (documents a.offsets.now a.components.now a.values.now) a.ids.now a.centroids.now)
+    short-made (input a.dimension a.blocking a.summarization (lent a.documents) a.ids.now a.centroids.now)
     (outputs a.postings.now a.block_offsets.now a.summary_components.now a.component_offsets.now a.summary_ids.now a.codes.now a.minimums.now a.steps.now) _ _
     c.build.ensures

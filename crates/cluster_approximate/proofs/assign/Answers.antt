@@ -1,6 +1,6 @@
 -- `cluster_approximate::assign` meets its contract.
 use lib.Seq.{length-take-le}
-use Rattle.documents.specs.Documents.{documents}
+use Rattle.documents.specs.Lent.{lent}
 use Rattle.cluster_passes.specs.Laws.Passes.{cut_fits}
 use Rattle.cluster_approximate.specs.Laws.Approximate.{assigned-first, assigned-both}
 use mathlib.Core.Path.{sym, ap, ◌∙◌}
@@ -69,12 +69,12 @@ returns c =
     let n = c.min-n in
     let k = c.count in
     let g = c.assign_again in
-    let x = assigned-first (documents a.offsets.now a.components.now a.values.now) a.cut (take m.result a.centroids.now) a.known.now
+    let x = assigned-first (lent a.documents) a.cut (take m.result a.centroids.now) a.known.now
     (length a.starts.now) (length a.slots.now) (length a.weights.now) (length a.sums.now) (length a.counts.now) (length a.keys.now) a.ids.now
     a.taken.now
     f.new.starts f.new.slots f.new.weights o.result.0 p.new.taken z.new.numbers
     k.new.counts n.result f.ensures p.ensures.taken o.ensures z.ensures n.ensures p.auto.taken k.ensures in
-    let taken = assigned-both (documents a.offsets.now a.components.now a.values.now) a.cut a.minimum a.centroids.now a.known.now a.competing.now
+    let taken = assigned-both (lent a.documents) a.cut a.minimum a.centroids.now a.known.now a.competing.now
     (length a.starts.now) (length a.slots.now) (length a.weights.now) (length a.sums.now) (length a.counts.now) (length a.keys.now) a.ids.now
     a.taken.now
     p.new.taken k.new.counts g.new.taken (length f.new.starts)

@@ -22,7 +22,8 @@ use Rattle.cluster_meaning.specs.Laws.Ranks.{rank_of}
 use Rattle.cluster_meaning.specs.Ranks.{Among}
 use Rattle.cluster_meaning.specs.Laws.Canonical.{reassign-is}
 use Rattle.cluster_meaning.specs.Laws.Members.{nearly-among, each-among, those-among}
-use Rattle.cluster_passes.specs.Ranked.{rank_in, is_small}
+use Rattle.sort.specs.Ranked.{rank_in}
+use Rattle.cluster_passes.specs.Ranked.{is_small}
 use Rattle.cluster_passes.specs.Laws.Ranked.{rank-in}
 use Rattle.cluster_passes.specs.Passes.{over}
 use Rattle.cluster_passes.specs.Laws.Passes.{over-map, over-mapped, cut-take, cut-drop}

@@ -8,7 +8,8 @@ use Rattle.sequences.specs.Laws.Lists.{both}
 use Rattle.documents.specs.Documents.{Documents}
 use Rattle.cluster_index.specs.Index.{indexed}
 use Rattle.cluster_meaning.specs.Clusters.{small}
-use Rattle.cluster_passes.specs.Ranked.{rank_in, is_small}
+use Rattle.sort.specs.Ranked.{rank_in}
+use Rattle.cluster_passes.specs.Ranked.{is_small}
 use Rattle.cluster_passes.specs.Passes.{over}
 use Rattle.cluster_passes.specs.Indexes.{index_documents}
 use Rattle.cluster_approximate_pass.specs.Taking.{nearly_choice}

@@ -1,6 +1,7 @@
 -- `cluster_approximate_pass::first_pass` meets its contract.
-use Rattle.documents.specs.Documents.{documents}
-use Rattle.cluster_passes.specs.Ranked.{rank_in}
+use Rattle.cluster_index.specs.Lent.{entries_lent}
+use Rattle.documents.specs.Lent.{lent}
+use Rattle.sort.specs.Ranked.{rank_in}
 use Rattle.cluster_passes.specs.Passes.{over}
 use Rattle.cluster_passes.specs.Laws.Passes.{over-start}
 use Rattle.cluster_slots.specs.Met.{none}
@@ -16,16 +17,16 @@ loop-i-init c =
     let a = c.args in
     let z = c.clear in (
       over-start (λ i r. rank_in a.known.now
-          (nearly_choice a.cut a.first.0 a.competing.now (documents a.starts.now a.slots.now a.weights.now) (length z.new.numbers) (length a.keys.now)
-          (documents a.offsets.now a.components.now a.values.now) i)) a.ids.now a.taken.now,
+          (nearly_choice a.cut a.first.0 a.competing.now (entries_lent a.index) (length z.new.numbers) (length a.keys.now)
+          (lent a.documents) i)) a.ids.now a.taken.now,
       z.ensures ∙ ap (λ n. replicate n none) (sym z.auto.numbers),
     )
 
 pub loop-i-preserved : goal.loop-i-preserved
 loop-i-preserved c =
     let l = c.loop-i in let a = c.args in let z = c.clear in let r = c.near_rank-r in (
-      taken-first a.known.now a.cut a.first.0 a.competing.now (documents a.starts.now a.slots.now a.weights.now) (length z.new.numbers)
-          (length a.keys.now) (documents a.offsets.now a.components.now a.values.now) a.ids.now a.taken.now l.taken l.i
+      taken-first a.known.now a.cut a.first.0 a.competing.now (entries_lent a.index) (length z.new.numbers)
+          (length a.keys.now) (lent a.documents) a.ids.now a.taken.now l.taken l.i
           (length l.sums) (length l.keys) r.result.0 l.invariant.0 (omega (arith, c.loop-i-test.true, c.min-n.ensures))
           (omega (arith, c.loop-i-test.true, c.min-n.ensures)) l.auto.sums l.auto.keys r.ensures.answer,
       r.ensures.sums ∙ ap (λ n. replicate n none) l.auto.sums,
@@ -34,11 +35,11 @@ loop-i-preserved c =
 pub returns : goal.returns
 returns c =
     let l = c.loop-i in let a = c.args in let z = c.clear in record {
-      taken = over-cut (λ i r. rank_in a.known.now (nearly_choice a.cut a.first.0 a.competing.now (documents a.starts.now a.slots.now a.weights.now)
-          (length z.new.numbers) (length a.keys.now) (documents a.offsets.now a.components.now a.values.now) i)) a.ids.now a.taken.now l.taken l.i
+      taken = over-cut (λ i r. rank_in a.known.now (nearly_choice a.cut a.first.0 a.competing.now (entries_lent a.index)
+          (length z.new.numbers) (length a.keys.now) (lent a.documents) i)) a.ids.now a.taken.now l.taken l.i
           c.min-n.result l.invariant.0 c.min-n.ensures (omega (arith, l.auto.i-end, c.loop-i-test.false))
-          ∙ ap (λ n. over (λ i r. rank_in a.known.now (nearly_choice a.cut a.first.0 a.competing.now (documents a.starts.now a.slots.now a.weights.now) (n)
-          (length a.keys.now) (documents a.offsets.now a.components.now a.values.now) i)) a.ids.now a.taken.now) z.auto.numbers;
+          ∙ ap (λ n. over (λ i r. rank_in a.known.now (nearly_choice a.cut a.first.0 a.competing.now (entries_lent a.index) (n)
+          (length a.keys.now) (lent a.documents) i)) a.ids.now a.taken.now) z.auto.numbers;
       sums = l.invariant.1 ∙ ap (λ n. replicate n none) z.auto.numbers;
       keys = c.clear-2.ensures ∙ ap (λ n. replicate n 0) l.auto.keys;
     }

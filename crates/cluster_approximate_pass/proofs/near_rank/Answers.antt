@@ -1,7 +1,9 @@
 -- `cluster_approximate_pass::near_rank` meets its contract.
-use Rattle.documents.specs.Documents.{documents, terms, largest}
+use Rattle.documents.specs.Documents.{terms, largest}
+use Rattle.cluster_index.specs.Lent.{entries_lent}
+use Rattle.documents.specs.Lent.{lent}
 use Rattle.documents.specs.TermKeys.{term_of}
-use Rattle.cluster_passes.specs.Ranked.{rank_in}
+use Rattle.sort.specs.Ranked.{rank_in}
 use Rattle.cluster_slots.specs.Laws.Zeros.{from-zeros}
 use mathlib.Core.Path.{sym, ap, ◌∙◌}
 use mathlib.Core.List.{map}
@@ -26,8 +28,8 @@ shape_of-keys c =
 pub returns : goal.returns
 returns c =
     let a = c.args in let k = c.largest_keys-m in let n = c.nearest_by_keys-c in
-    let x = from-zeros (documents a.starts.now a.slots.now a.weights.now) a.sums.now n.new.sums (map term_of (take k.result k.new.keys))
-    (largest a.cut (take (length a.keys.now) (terms (documents a.offsets.now a.components.now a.values.now) a.document.0))) a.first.0 a.competing.now n.result.0 c.requires k.ensures.terms (n.ensures.answer, n.ensures.sums) in
+    let x = from-zeros (entries_lent a.index) a.sums.now n.new.sums (map term_of (take k.result k.new.keys))
+    (largest a.cut (take (length a.keys.now) (terms (lent a.documents) a.document.0))) a.first.0 a.competing.now n.result.0 c.requires k.ensures.terms (n.ensures.answer, n.ensures.sums) in
     record {
       answer = c.rank.ensures ∙ ap (rank_in a.known.now) x.0;
       sums = x.1;

@@ -1,5 +1,6 @@
 -- `cluster_approximate_pass::second_pass` meets its contract.
-use Rattle.documents.specs.Documents.{documents}
+use Rattle.cluster_index.specs.Lent.{entries_lent}
+use Rattle.documents.specs.Lent.{lent}
 use Rattle.cluster_passes.specs.Passes.{over}
 use Rattle.cluster_passes.specs.Laws.Passes.{over-start}
 use Rattle.cluster_slots.specs.Met.{none}
@@ -16,8 +17,8 @@ loop-i-init c =
     let a = c.args in
     let z = c.clear in (
       over-start (again_rank a.known.now a.counts.now a.minimum a.cut a.first.0 a.competing.now
-          (documents a.starts.now a.slots.now a.weights.now) (length z.new.numbers) (length a.keys.now)
-          (documents a.offsets.now a.components.now a.values.now)) a.ids.now a.taken.now,
+          (entries_lent a.index) (length z.new.numbers) (length a.keys.now)
+          (lent a.documents)) a.ids.now a.taken.now,
       z.ensures ∙ ap (λ n. replicate n none) (sym z.auto.numbers),
     )
 
@@ -25,15 +26,15 @@ pub loop-i-preserved : goal.loop-i-preserved
 loop-i-preserved c =
     let l = c.loop-i in let a = c.args in let z = c.clear in let s = c.is_small in elim c.if-is_small.branch [
       | then-is_small w ↦ let r = w.near_rank-r in (
-        w.taken-is ∙ taken-again a.known.now a.counts.now a.minimum a.cut a.first.0 a.competing.now (documents a.starts.now a.slots.now a.weights.now)
-            (length z.new.numbers) (length a.keys.now) (documents a.offsets.now a.components.now a.values.now) a.ids.now a.taken.now l.taken l.i
+        w.taken-is ∙ taken-again a.known.now a.counts.now a.minimum a.cut a.first.0 a.competing.now (entries_lent a.index)
+            (length z.new.numbers) (length a.keys.now) (lent a.documents) a.ids.now a.taken.now l.taken l.i
             (length l.sums) (length l.keys) r.result.0 s.result l.invariant.0 (omega (arith, c.loop-i-test.true, c.min-end.ensures))
             (omega (arith, c.loop-i-test.true, c.min-end.ensures)) l.auto.sums l.auto.keys s.ensures w.if-is_small.true r.ensures.answer,
         w.sums-is ∙ r.ensures.sums ∙ ap (λ n. replicate n none) l.auto.sums,
       )
       | else-is_small w ↦ (
-        w.taken-is ∙ stayed a.known.now a.counts.now a.minimum a.cut a.first.0 a.competing.now (documents a.starts.now a.slots.now a.weights.now)
-            (length z.new.numbers) (length a.keys.now) (documents a.offsets.now a.components.now a.values.now) a.ids.now a.taken.now l.taken l.i
+        w.taken-is ∙ stayed a.known.now a.counts.now a.minimum a.cut a.first.0 a.competing.now (entries_lent a.index)
+            (length z.new.numbers) (length a.keys.now) (lent a.documents) a.ids.now a.taken.now l.taken l.i
             s.result l.invariant.0 (omega (arith, c.loop-i-test.true, c.min-end.ensures)) (omega (arith, c.loop-i-test.true, c.min-end.ensures)) s.ensures w.if-is_small.false,
         w.sums-is ∙ l.invariant.1,
       )
@@ -42,11 +43,11 @@ loop-i-preserved c =
 pub returns : goal.returns
 returns c =
     let l = c.loop-i in let a = c.args in let z = c.clear in record {
-      taken = over-cut (again_rank a.known.now a.counts.now a.minimum a.cut a.first.0 a.competing.now (documents a.starts.now a.slots.now a.weights.now)
-          (length z.new.numbers) (length a.keys.now) (documents a.offsets.now a.components.now a.values.now)) a.ids.now a.taken.now l.taken l.i
+      taken = over-cut (again_rank a.known.now a.counts.now a.minimum a.cut a.first.0 a.competing.now (entries_lent a.index)
+          (length z.new.numbers) (length a.keys.now) (lent a.documents)) a.ids.now a.taken.now l.taken l.i
           c.min-end.result l.invariant.0 c.min-end.ensures (omega (arith, l.auto.i-end, c.loop-i-test.false))
           ∙ ap (λ n. over (again_rank a.known.now a.counts.now a.minimum a.cut a.first.0 a.competing.now
-          (documents a.starts.now a.slots.now a.weights.now) n (length a.keys.now) (documents a.offsets.now a.components.now a.values.now))
+          (entries_lent a.index) n (length a.keys.now) (lent a.documents))
           a.ids.now a.taken.now) z.auto.numbers;
       sums = l.invariant.1 ∙ ap (λ n. replicate n none) z.auto.numbers;
       keys = c.clear-2.ensures ∙ ap (λ n. replicate n 0) l.auto.keys;

@@ -1,6 +1,6 @@
 -- `cluster_by_mode::assign` meets its contract.
 use lib.Seq.{length-take-le}
-use Rattle.documents.specs.Documents.{documents}
+use Rattle.documents.specs.Lent.{lent}
 use Rattle.cluster_by_mode.specs.Laws.Modes.{taken-by}
 use mathlib.Core.Path.{sym, ap, ◌∙◌}
 use native.Mathlib.Omega.{arith}
@@ -53,7 +53,7 @@ shape_of-taken c = c.take_by.auto.taken
 pub returns : goal.returns
 returns c =
     let a = c.args in let f = c.take_by in let k = c.sort_into in
-    let taken = taken-by a.algorithm (documents a.offsets.now a.components.now a.values.now) a.minimum a.centroids.now a.known.now k.new.out
+    let taken = taken-by a.algorithm (lent a.documents) a.minimum a.centroids.now a.known.now k.new.out
     (length a.competing.now) (length a.starts.now) (length a.slots.now) (length a.weights.now) (length a.sums.now) (length a.counts.now)
     (length a.keys.now) (take (length a.taken.now) a.ids.now) (drop (length a.ids.now) a.taken.now) f.new.taken
     c.min-room.result c.min-m.result c.min-room.ensures c.min-m.ensures k.ensures f.ensures.taken in

@@ -1,5 +1,5 @@
 -- `cluster_by_mode::take_by` meets its contract.
-use Rattle.documents.specs.Documents.{documents}
+use Rattle.documents.specs.Lent.{lent}
 use Rattle.cluster_by_mode.specs.Modes.{ranks_by}
 use mathlib.Core.Path.{sym, ap, ◌∙◌}
 use mathlib.Core.List.{◌++◌}
@@ -33,7 +33,7 @@ shape_of-taken-in-RandomKmeans c = c.assign.auto.taken
 pub returns-in-RandomKmeans : goal.returns-in-RandomKmeans
 returns-in-RandomKmeans c =
     let a = c.args in let f = c.assign in
-    let taken = f.ensures.taken ∙ ap (λ g. ranks_by g (documents a.offsets.now a.components.now a.values.now) a.minimum a.centroids.now a.known.now
+    let taken = f.ensures.taken ∙ ap (λ g. ranks_by g (lent a.documents) a.minimum a.centroids.now a.known.now
     (length a.competing.now) (length a.starts.now) (length a.slots.now) (length a.weights.now) (length a.sums.now) (length a.counts.now)
     (length a.keys.now) (take (length a.taken.now) a.ids.now) ++ drop (length a.ids.now) a.taken.now) (sym c.in-RandomKmeans.is) in
     record {
@@ -74,7 +74,7 @@ shape_of-taken-in-RandomKmeansInvertedIndexApprox c = c.assign-in-RandomKmeansIn
 pub returns-in-RandomKmeansInvertedIndexApprox : goal.returns-in-RandomKmeansInvertedIndexApprox
 returns-in-RandomKmeansInvertedIndexApprox c =
     let a = c.args in let f = c.assign-in-RandomKmeansInvertedIndexApprox in
-    let taken = f.ensures.taken ∙ ap (λ g. ranks_by g (documents a.offsets.now a.components.now a.values.now) a.minimum a.centroids.now a.known.now
+    let taken = f.ensures.taken ∙ ap (λ g. ranks_by g (lent a.documents) a.minimum a.centroids.now a.known.now
     (length a.competing.now) (length a.starts.now) (length a.slots.now) (length a.weights.now) (length a.sums.now) (length a.counts.now)
     (length a.keys.now) (take (length a.taken.now) a.ids.now) ++ drop (length a.ids.now) a.taken.now) (sym c.in-RandomKmeansInvertedIndexApprox.is) in
     record {

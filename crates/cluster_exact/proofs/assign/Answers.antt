@@ -1,6 +1,6 @@
 -- `cluster_exact::assign` meets its contract.
 use lib.Seq.{length-take-le}
-use Rattle.documents.specs.Documents.{documents}
+use Rattle.documents.specs.Lent.{lent}
 use Rattle.cluster_passes.specs.Laws.Passes.{cut_fits}
 use Rattle.cluster_exact.specs.Exact.{exact_ranks}
 use Rattle.cluster_exact.specs.Laws.Exact.{assigned-cut}
@@ -69,7 +69,7 @@ returns c =
     let g = c.clear in
     let m = c.min-m in
     let n = c.min-n in
-    let d = documents a.offsets.now a.components.now a.values.now in
+    let d = lent a.documents in
     let l : length (take m.result a.sums.now) ≡ min (length a.centroids.now) (length a.sums.now) = length-take-le m.result a.sums.now (omega (arith, m.ensures)) ∙ m.ensures in
     let taken = assigned-cut d a.minimum a.centroids.now a.known.now (length a.starts.now) (length a.slots.now) (length a.weights.now)
     (min (length a.centroids.now) (length a.sums.now)) (length a.counts.now) a.ids.now a.taken.now n.result

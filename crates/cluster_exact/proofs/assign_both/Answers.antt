@@ -1,6 +1,6 @@
 -- `cluster_exact::assign_both` meets its contract.
 use lib.Seq.{length-take-le}
-use Rattle.documents.specs.Documents.{documents}
+use Rattle.documents.specs.Lent.{lent}
 use Rattle.cluster_exact.specs.Laws.Exact.{assigned-exactly}
 use mathlib.Core.Path.{sym}
 use native.Mathlib.Omega.{arith}
@@ -34,7 +34,7 @@ shape_of-weights c =
 pub returns : goal.returns
 returns c =
     let a = c.args in
-    assigned-exactly (documents a.offsets.now a.components.now a.values.now) a.minimum a.centroids.now a.known.now (length a.starts.now)
+    assigned-exactly (lent a.documents) a.minimum a.centroids.now a.known.now (length a.starts.now)
     (length a.slots.now) (length a.weights.now) (length a.sums.now) (length a.counts.now) a.ids.now a.taken.now
     c.fill.new.starts c.fill.new.slots c.fill.new.weights _
     c.first_pass.new.taken c.clear.new.numbers c.count.new.counts _

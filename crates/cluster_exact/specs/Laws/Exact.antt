@@ -24,7 +24,8 @@ use Rattle.cluster_meaning.specs.Ranks.{Among}
 use Rattle.cluster_meaning.specs.Laws.Canonical.{dissolved-by, reassign-is}
 use Rattle.cluster_meaning.specs.Laws.Members.{nearest-among, itself-among, each-among}
 use Rattle.cluster_meaning.specs.Laws.Search.{at-rank}
-use Rattle.cluster_passes.specs.Ranked.{rank_in, took_itself}
+use Rattle.sort.specs.Ranked.{rank_in}
+use Rattle.cluster_passes.specs.Ranked.{took_itself}
 use Rattle.cluster_passes.specs.Laws.Ranked.{rank-in, listed_in}
 use Rattle.cluster_passes.specs.Passes.{over}
 use Rattle.cluster_passes.specs.Laws.Passes.{over-map, over-mapped, cut-take, cut-drop}

@@ -33,7 +33,7 @@ loop-i-preserved c =
       search rules,
       l.invariant.1,
       fold-passed l.best l.invariant.1 a.centroids.now a.sums.now c.shared_slice_known-2-1.given l.i (l.i + 16) (omega arith)
-          (sym c.all_below.ensures ∙ not-false _ c.if-not-all_below.false-raw) ∙ l.invariant.2,
+          (sym c.all_below.ensures.answer ∙ not-false _ c.if-not-all_below.false-raw) ∙ l.invariant.2,
     )
 
 pub returns : goal.returns

@@ -2,12 +2,12 @@
 use mathlib.Core.Path.{◌≡◌}
 use mathlib.Core.List.{map, foldl}
 use lib.ListN.{drop}
-use Rattle.documents.specs.Documents.{documents}
+use Rattle.cluster_index.specs.Lent.{entries_lent}
 use Rattle.documents.specs.TermKeys.{term_of}
 use Rattle.cluster_slots.specs.Met.{met, none, best, better}
 use Rattle.cluster_slots.proofs.best_met.Given as goal
 
 abbrev pub invariant-loop-key : goal.invariant-loop-key
 invariant-loop-key l =
-    foldl (better l.sums) l.b (met (documents l.starts l.slots l.weights) (map term_of (drop l.key-index l.keys)))
-    ≡ foldl (better l.sums) (best 0 none) (met (documents l.starts l.slots l.weights) (map term_of l.keys))
+    foldl (better l.sums) l.b (met (entries_lent l.index) (map term_of (drop l.key-index l.keys)))
+    ≡ foldl (better l.sums) (best 0 none) (met (entries_lent l.index) (map term_of l.keys))

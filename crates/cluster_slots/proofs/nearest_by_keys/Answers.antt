@@ -4,7 +4,7 @@ use mathlib.Core.Path.{sym}
 use mathlib.Core.List.{map}
 use lib.ListN.{length-take}
 use lib.Seq.{length-take-le}
-use Rattle.documents.specs.Documents.{documents}
+use Rattle.cluster_index.specs.Lent.{entries_lent}
 use Rattle.documents.specs.TermKeys.{term_of}
 use Rattle.cluster_slots.specs.Laws.Choice.{by_part}
 use Rattle.cluster_slots.proofs.nearest_by_keys.Goals as goal
@@ -22,7 +22,7 @@ returns c =
     let all = (let a = c.args in
     let s = c.min-n in
     let w = c.nearest_within in
-    by_part a.otherwise.0 a.competing.now (documents a.starts.now a.slots.now a.weights.now) a.sums.now w.new.sums
+    by_part a.otherwise.0 a.competing.now (entries_lent a.index) a.sums.now w.new.sums
     (map term_of a.keys.now) s.result w.result.0 s.ensures (w.ensures.answer, w.ensures.sums)
     ) in
     record {

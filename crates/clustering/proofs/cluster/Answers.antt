@@ -1,6 +1,6 @@
 -- `clustering::cluster` meets its contract: its steps one after another, on what finds a place.
 use lib.Seq.{length-take-le}
-use Rattle.documents.specs.Documents.{documents}
+use Rattle.documents.specs.Lent.{lent}
 use Rattle.counting_sort.specs.Counting.{Grouped}
 use Rattle.scratch.specs.Scratches.{scratches}
 use Rattle.clustering.specs.Clustered.{clustered_in}
@@ -66,7 +66,7 @@ unfolding clustered_in
 returns c =
     let a = c.args in
     let k = c.sort_into in let f = c.assign in let g = c.group_and_clear in
-    let w = steps-are a.algorithm (documents a.offsets.now a.components.now a.values.now) a.minimum a.ids.now a.centroids.now
+    let w = steps-are a.algorithm (lent a.documents) a.minimum a.ids.now a.centroids.now
     (scratches a.order.now a.blocks.now a.sorted.now a.known.now a.taken.now a.counts.now a.starts.now a.slots.now a.weights.now a.sums.now a.keys.now)
     c.min-places.result c.min-n.result c.min-places.ensures c.min-n.ensures
     k.new.out f.new.taken f.new.counts f.new.competing k.ensures f.ensures.taken f.ensures.counts f.ensures.competing in record {

@@ -2,9 +2,9 @@
 use mathlib.Core.Path.{◌≡◌}
 use mathlib.Core.Bool.{◌&&◌}
 use lib.ListN.{drop}
-use Rattle.documents.specs.Documents.{documents}
+use Rattle.documents.specs.Lent.{lent}
 use Rattle.documents.specs.Checks.{documents_hold}
 use Rattle.document_checks.proofs.documents_hold.Given as goal
 
 abbrev pub invariant-loop-id : goal.invariant-loop-id
-invariant-loop-id l = (l.ok && documents_hold l.dimension (documents l.offsets l.components l.values) (drop l.id-index l.ids)) ≡ documents_hold l.dimension (documents l.offsets l.components l.values) l.ids
+invariant-loop-id l = (l.ok && documents_hold l.dimension (lent l.documents) (drop l.id-index l.ids)) ≡ documents_hold l.dimension (lent l.documents) l.ids

@@ -1,6 +1,7 @@
 -- `explain::probe_to`: from what the postings before it left.
 use Rattle.kept_list.specs.Lent.{lent}
-use Rattle.search_probe.specs.Probed.{terms, lends}
+use Rattle.search_probe.specs.Lent.{lent_terms}
+use Rattle.search_probe.specs.Probed.{lends}
 use Rattle.explain.proofs.Fates.{fated-in}
 use mathlib.Core.Path.{sym}
 use lib.Seq.{length-take-le}
@@ -8,7 +9,7 @@ use native.Mathlib.Omega.{arith}
 use Rattle.explain.proofs.probe_to.Goals as goal
 
 pub overflow_add-bytes : goal.overflow_add-bytes
-overflow_add-bytes c = omega (arith, c.well_formed.1.1.1.1.1.1.1.0)
+overflow_add-bytes c = omega (arith, c.ranges.terms.0)
 
 pub slice_bounds-reached_fate-end-2 : goal.slice_bounds-reached_fate-end-2
 slice_bounds-reached_fate-end-2 c =
@@ -16,5 +17,5 @@ slice_bounds-reached_fate-end-2 c =
 
 pub returns : goal.returns
 returns c =
-    let a = c.args in fated-in a.k a.factor (terms a.query_components.now a.query_values.now a.components.now a.values.now) a.postings.now a.first
+    let a = c.args in fated-in a.k a.factor (lent_terms a.query a.terms) a.postings.now a.first
     a.score a.position (lends (lent a.length.now a.packed.now a.scores.now) a.visits.now) _ _ _ c.probe-answer.ensures c.at-posting.ensures _ c.min-n.ensures c.reached_fate.ensures

@@ -1,6 +1,6 @@
 -- `build` is what its definition says: blocks made or refused, and then the end of a build.
 use mathlib.Core.Path.{◌∙◌}
-use Rattle.documents.specs.Documents.{documents}
+use Rattle.documents.specs.Lent.{lent}
 use Rattle.build_meaning.specs.Built.{input}
 use Rattle.build_meaning.specs.Building.{outputs, scratches}
 use Rattle.posting_list.proofs.Laws.{built-so}
@@ -74,13 +74,13 @@ pub returns : goal.returns
 returns c =
     let a = c.args in let m = c.make-made in
     let f = c.finish in
-    built-so (input a.dimension a.blocking a.summarization (documents a.offsets.now a.components.now a.values.now) a.ids.now a.centroids.now)
+    built-so (input a.dimension a.blocking a.summarization (lent a.documents) a.ids.now a.centroids.now)
     (scratches a.order.now a.blocks.now a.sorted.now a.known.now a.taken.now a.counts.now a.starts.now a.slots.now a.weights.now
     a.sums.now a.keys.now) m.result (scratches m.new.order m.new.blocks m.new.sorted
     m.new.known m.new.taken m.new.counts
     m.new.starts m.new.slots m.new.weights
     m.new.sums m.new.keys) m.ensures
-    (λ k. (c.shared_slice_known-2-1.given k).fits) (λ k. c.shared_slice_known-3-1.given k)
+    c.args.documents.narrow c.args.documents.fit
     (outputs a.postings.now a.block_offsets.now a.summary_components.now a.component_offsets.now a.summary_ids.now a.codes.now a.minimums.now
     a.steps.now) f.result (outputs f.new.postings f.new.block_offsets f.new.summary_components
     f.new.component_offsets f.new.summary_ids f.new.codes

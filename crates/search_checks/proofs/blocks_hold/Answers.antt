@@ -13,4 +13,4 @@ pub returns-then-last-blocks : goal.returns-then-last-blocks
 returns-then-last-blocks c = let a = c.args in blocks-uneven a.postings a.blocks a.component_offsets.now c.if-blocks-eq0.false (λ e. c.if-last-blocks.true (omega arith))
 
 pub returns : goal.returns
-returns c = let a = (c.args) in blocks-even a.postings a.blocks a.component_offsets.now _ c.if-blocks-eq0.false (omega arith) c.never_fall.ensures
+returns c = let a = (c.args) in blocks-even a.postings a.blocks a.component_offsets.now _ c.if-blocks-eq0.false (omega arith) c.never_falls.ensures

@@ -7,4 +7,4 @@ pub returns-then-n-eq0 : goal.returns-then-n-eq0
 returns-then-n-eq0 c = let a = c.args in offsets-none a.component_offsets.now a.entries c.if-n-eq0.true
 
 pub returns : goal.returns
-returns c = let a = c.args in offsets-some a.component_offsets.now a.entries _ (omega arith) c.never_fall.ensures
+returns c = let a = c.args in offsets-some a.component_offsets.now a.entries _ (omega arith) c.never_falls.ensures

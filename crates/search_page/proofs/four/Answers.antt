@@ -4,4 +4,4 @@ use native.Mathlib.Omega.{arith}
 use Rattle.search_page.proofs.four.Goals as goal
 
 pub returns-then-m0-m1-eq0 : goal.returns-then-m0-m1-eq0
-returns-then-m0-m1-eq0 c = let a = (c.args) in through-four a.sieve.now a.query_components.now a.query_values.now a.components.now a.values.now a.i a.s (omega arith) (omega arith) (omega arith) (omega arith) (omega arith) (omega arith)
+returns-then-m0-m1-eq0 c = let a = (c.args) in through-four a.sieve.now a.query.components.now a.query.values.now a.components.now a.values.now a.i a.s (omega arith) (omega arith) (omega arith) (omega arith) (omega arith) (omega arith)

@@ -7,19 +7,19 @@ use Rattle.search_page.proofs.read_wide.Goals as goal
 pub returns-then-not-slices_hold : goal.returns-then-not-slices_hold
 returns-then-not-slices_hold c =
     let a = c.args in
-    breaks-wide a.table.now a.sieve.now a.query_components.now a.query_values.now a.components.now a.values.now
+    breaks-wide a.laid.table.now a.laid.sieve.now a.laid.query.components.now a.laid.query.values.now a.components.now a.values.now
     (sym c.slices_hold.ensures ∙ c.if-not-slices_hold.true)
 
-pub laid_sum-laid-requires : goal.laid_sum-laid-requires
-laid_sum-laid-requires c =
+pub laid_sum-score-requires : goal.laid_sum-score-requires
+laid_sum-score-requires c =
     let a = c.args in holds-even a.components.now a.values.now (sym c.slices_hold.ensures ∙ c.if-not-slices_hold.false)
 
 pub returns-then-fits_table : goal.returns-then-fits_table
 returns-then-fits_table c =
     let a = c.args in
-    reads-laid-wide a.table.now a.sieve.now a.query_components.now a.query_values.now a.components.now a.values.now
-    (sym c.slices_hold.ensures ∙ c.if-not-slices_hold.false) (sym c.fits_table.ensures ∙ c.if-fits_table.true) c.laid_sum-laid.result
-    c.laid_sum-laid.ensures
+    reads-laid-wide a.laid.table.now a.laid.sieve.now a.laid.query.components.now a.laid.query.values.now a.components.now a.values.now
+    (sym c.slices_hold.ensures ∙ c.if-not-slices_hold.false) (sym c.fits_table.ensures ∙ c.if-fits_table.true) c.laid_sum-score.result
+    c.laid_sum-score.ensures
 
 pub walk-score-requires : goal.walk-score-requires
 walk-score-requires c =
@@ -28,6 +28,6 @@ walk-score-requires c =
 pub returns : goal.returns
 returns c =
     let a = c.args in
-    reads-wide a.table.now a.sieve.now a.query_components.now a.query_values.now a.components.now a.values.now
+    reads-wide a.laid.table.now a.laid.sieve.now a.laid.query.components.now a.laid.query.values.now a.components.now a.values.now
     (sym c.slices_hold.ensures ∙ c.if-not-slices_hold.false) (sym c.fits_table.ensures ∙ c.if-fits_table.false) c.walk-score.result
     c.walk-score.ensures

@@ -19,4 +19,4 @@ returns c =
     let l = c.loop-b in
     let t = c.terms-s in
     let z : l.b ≡ length a.components.now / 4 = omega arith in
-    sym (ap (λ (s : Sum). s.total) (rw z at l.invariant ∙ t.ensures ∙ through-end a.sieve.now a.query_components.now a.query_values.now a.components.now a.values.now t.result (omega arith)))
+    sym (ap (λ (s : Sum). s.total) (rw z at l.invariant ∙ t.ensures ∙ through-end a.sieve.now a.query.components.now a.query.values.now a.components.now a.values.now t.result (omega arith)))

@@ -5,4 +5,4 @@ use Rattle.search_page.proofs.Laws.{through_from}
 use Rattle.search_page.proofs.walk.Given as goal
 
 abbrev pub invariant-loop-b : goal.invariant-loop-b
-invariant-loop-b l = through_from l.sieve l.query_components l.query_values l.components l.values 0 l.initial.s ≡ through_from l.sieve l.query_components l.query_values l.components l.values (l.b * 4) l.s
+invariant-loop-b l = through_from l.sieve l.query.components.now l.query.values.now l.components l.values 0 l.initial.s ≡ through_from l.sieve l.query.components.now l.query.values.now l.components l.values (l.b * 4) l.s

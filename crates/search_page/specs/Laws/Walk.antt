@@ -16,7 +16,8 @@ use Rattle.documents.specs.Documents.{term, paired, values_at}
 use Rattle.documents.specs.Laws.Documents.{strictly-rise-at}
 use Rattle.search_page.specs.declared.Sum.{Sum}
 use Rattle.search_page.specs.Laws.Score.{Above, of_page, walked_from}
-use Rattle.search_page.specs.Through.{marking, sieve_of, sum_of, belows, sought, hits, looked, stepped, through}
+use Rattle.documents.specs.Sought.{belows, sought}
+use Rattle.search_page.specs.Through.{marking, sieve_of, sum_of, hits, looked, stepped, through}
 
 -- ---- the sieve
 -- the components are marked at their remainders

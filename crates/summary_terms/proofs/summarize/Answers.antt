@@ -1,12 +1,12 @@
 -- The terms that are taken, finished.
-use Rattle.documents.specs.Documents.{documents}
+use Rattle.documents.specs.Lent.{lent}
 use Rattle.summary_terms.specs.Laws.Whole.{block_held, keys-suffice, maxima-suffice, summarized}
 use Rattle.summary_terms.proofs.summarize.Goals as goal
 
 pub finish_first-requires : goal.finish_first-requires
 finish_first-requires c =
     let a = c.args in
-    let d = documents a.offsets.now a.components.now a.values.now in record {
+    let d = lent a.documents in record {
       count_in_bounds = keys-suffice a.dimension c.limit_of-limit.result a.strategy d a.block.now a.keys.now a.places.now a.maxima.now c.limit_of-limit.ensures _ c.gather-count.ensures;
       count_in_bounds_2 = maxima-suffice a.dimension c.limit_of-limit.result a.strategy d a.block.now a.keys.now a.places.now a.maxima.now c.limit_of-limit.ensures _ c.gather-count.ensures;
     }
@@ -14,6 +14,6 @@ finish_first-requires c =
 pub returns : goal.returns
 returns c =
     let a = c.args in
-    let d = documents a.offsets.now a.components.now a.values.now in
+    let d = lent a.documents in
     summarized a.dimension c.limit_of-limit.result a.strategy d a.block.now a.keys.now a.places.now a.maxima.now c.limit_of-limit.ensures _ c.gather-count.ensures _ _ _ _
-    (block_held d a.block.now (λ k. (c.shared_slice_known-2-1.given k).fits) (λ k. c.shared_slice_known-3-1.given k)) c.finish_first.ensures
+    (block_held d a.block.now c.args.documents.narrow c.args.documents.fit) c.finish_first.ensures

@@ -4,14 +4,14 @@ use mathlib.Core.Bool.{false}
 use lib.IntN.{pos}
 use lib.Ieee.{fin}
 use lib.ListN.{length, replicate}
-use Rattle.documents.specs.Documents.{documents}
+use Rattle.documents.specs.Lent.{lent}
 use Rattle.cluster_approximate.specs.Laws.Staying.{all_stay}
 use Rattle.cluster_approximate.proofs.again.assign_again.Goals as goal
 
 pub returns-then-none_dissolve : goal.returns-then-none_dissolve
 returns-then-none_dissolve c =
     let a = c.args in record {
-      taken = all_stay (documents a.offsets.now a.components.now a.values.now) a.cut a.minimum a.centroids.now a.known.now (length a.starts.now)
+      taken = all_stay (lent a.documents) a.cut a.minimum a.centroids.now a.known.now (length a.starts.now)
           (length a.slots.now) (length a.weights.now) (length a.sums.now) (length a.keys.now) a.ids.now a.counts.now a.taken.now
           (sym c.none_dissolve.ensures ∙ c.if-none_dissolve.true);
       competing = c.clear.ensures.competing;

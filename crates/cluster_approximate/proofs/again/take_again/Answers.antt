@@ -3,7 +3,7 @@ use native.Mathlib.Omega.{arith}
 use mathlib.Core.Path.{sym}
 use lib.ListN.{length, take}
 use lib.Seq.{length-take-le}
-use Rattle.documents.specs.Documents.{documents}
+use Rattle.documents.specs.Lent.{lent}
 use Rattle.cluster_approximate.specs.Laws.Approximate.{assigned-again}
 use Rattle.cluster_approximate.proofs.again.take_again.Goals as goal
 
@@ -20,7 +20,7 @@ returns c =
     let f = c.fill in
     let g = c.gather-m in
     let p = c.second_pass in
-    assigned-again (documents a.offsets.now a.components.now a.values.now) a.cut a.minimum a.centroids.now a.known.now (length a.starts.now)
+    assigned-again (lent a.documents) a.cut a.minimum a.centroids.now a.known.now (length a.starts.now)
     (length a.slots.now) (length a.weights.now) (length a.sums.now) (length a.keys.now) a.ids.now a.counts.now a.taken.now
     (take g.result g.new.competing)
     f.new.starts f.new.slots f.new.weights c.first_of-first.result.0

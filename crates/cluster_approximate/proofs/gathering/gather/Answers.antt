@@ -1,5 +1,6 @@
 -- `cluster_approximate::gathering::gather` meets its contract.
-use Rattle.cluster_passes.specs.Ranked.{rank_in, is_small}
+use Rattle.sort.specs.Ranked.{rank_in}
+use Rattle.cluster_passes.specs.Ranked.{is_small}
 use Rattle.cluster_approximate.specs.Laws.Gathering.{gather-step, gather-end}
 use mathlib.Core.Path.{ap, ◌∙◌}
 use native.Mathlib.Omega.{arith}

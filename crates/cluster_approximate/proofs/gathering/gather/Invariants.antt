@@ -1,7 +1,8 @@
 -- `cluster_approximate::gathering::gather` meets its contract.
 use mathlib.Core.Bool.{not}
 use Rattle.sequences.specs.Lists.{those}
-use Rattle.cluster_passes.specs.Ranked.{rank_in, is_small}
+use Rattle.sort.specs.Ranked.{rank_in}
+use Rattle.cluster_passes.specs.Ranked.{is_small}
 use mathlib.Core.Path.{◌≡◌}
 use mathlib.Core.List.{◌++◌}
 use Prim.Native.Nat.{◌≤◌}

@@ -2,8 +2,11 @@
 use mathlib.Core.Bool.{true, false, cond}
 use Rattle.cluster_nearest.specs.Scored.{scores_of}
 use Rattle.cluster_nearest.specs.Nearest.{first_above}
-use Rattle.cluster_passes.specs.Ranked.{rank_in, listed_at}
-use Rattle.documents.specs.Documents.{documents, terms}
+use Rattle.sort.specs.Ranked.{rank_in}
+use Rattle.cluster_passes.specs.Ranked.{listed_at}
+use Rattle.documents.specs.Documents.{terms}
+use Rattle.cluster_index.specs.Lent.{entries_lent}
+use Rattle.documents.specs.Lent.{lent}
 use mathlib.Core.Path.{◌≡◌, sym, ap, ◌∙◌}
 use lib.ListN.{length}
 use Rattle.cluster_exact.proofs.taking.first_rank.Goals as goal
@@ -15,8 +18,8 @@ returns-then-is_listed c =
     (sym c.rank-own.ensures) ∙ sym c.is_listed.ensures ∙ c.if-is_listed.true in
     c.rank-own.ensures ∙ ap (rank_in a.known.now)
     (sym (ap (λ b. cond b a.document.0 (first_above a.centroids.now
-    (scores_of (documents a.starts.now a.slots.now a.weights.now) (length a.sums.now)
-    (terms (documents a.offsets.now a.components.now a.values.now) a.document.0)))) e))
+    (scores_of (entries_lent a.index) (length a.sums.now)
+    (terms (lent a.documents) a.document.0)))) e))
 
 pub returns : goal.returns
 returns c =
@@ -27,5 +30,5 @@ returns c =
     ∙ ap (rank_in a.known.now)
     (c.nearest_to-c.ensures.answer ∙ ap (first_above a.centroids.now) c.nearest_to-c.ensures.sums
     ∙ sym (ap (λ b. cond b a.document.0 (first_above a.centroids.now
-    (scores_of (documents a.starts.now a.slots.now a.weights.now) (length a.sums.now)
-    (terms (documents a.offsets.now a.components.now a.values.now) a.document.0)))) e))
+    (scores_of (entries_lent a.index) (length a.sums.now)
+    (terms (lent a.documents) a.document.0)))) e))
