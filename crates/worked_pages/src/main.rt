@@ -21,9 +21,9 @@ fn say_refusal(rt: &impl Print, reason: Refusal) -> io::Result<()> {
     println!(rt; "gives {}", reason.number())
 }
 
-fn pack(rt: &impl Print, asked: &str, start: u64, end: u64) -> io::Result<()> {
+fn pack(rt: &impl Print, asked: &str, start: RangeStart, end: u64) -> io::Result<()> {
     print!(rt; "pack {asked}: ")?;
-    match PackedPosting::pack(RangeStart(start), end) {
+    match PackedPosting::pack(start, end) {
         Ok(p) => println!(rt; "packs to {}", p.0),
         Err(reason) => say_refusal(rt, reason),
     }
@@ -147,11 +147,11 @@ fn search_two_blocks(rt: &impl Print) -> io::Result<()> {
 
 fn pack_all(rt: &impl Print) -> io::Result<()> {
     for (asked, start, end) in [
-        ("3..7", 3, 7),
-        ("start 2^48-1, length 0", 0xffff_ffff_ffff, 0xffff_ffff_ffff),
-        ("start 2^48", 0x1_0000_0000_0000, 0x1_0000_0000_0000),
-        ("length 65535", 0, 65535),
-        ("length 65536", 0, 65536),
+        ("3..7", RangeStart(3), 7),
+        ("start 2^48-1, length 0", RangeStart(0xffff_ffff_ffff), 0xffff_ffff_ffff),
+        ("start 2^48", RangeStart(0x1_0000_0000_0000), 0x1_0000_0000_0000),
+        ("length 65535", RangeStart(0), 65535),
+        ("length 65536", RangeStart(0), 65536),
     ] {
         pack(rt, asked, start, end)?;
     }
