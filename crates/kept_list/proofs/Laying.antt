@@ -51,6 +51,21 @@ module _ {B : Type 0} (d : B) (at : ℕ) (c : List B) (h : at < length c) where
   pub moved-one : (s : List B) (r j : ℕ) (v : B) → r ≡ suc j → r ≤ at → s ≡ moved_down r at c → v ≡ get_or c j d → set s r v ≡ moved_down j at c
   moved-one s r j v q l e f = rw (e, f, q) (one j (omega arith))
 
+-- eight at once, place by place
+module _ {B : Type 0} (d : B) (i : ℕ) (c : List B) (h : i < length c) (n : 8 ≤ i) where
+  abbrev at_above : ℕ → B
+  at_above k = get_or c (i - k) d
+
+  pub moved-eight
+      : set (set (set (set (set (set (set (set c i (at_above 1)) (i - 1) (at_above 2)) (i - 2) (at_above 3)) (i - 3) (at_above 4)) (i - 4) (at_above 5)) (i - 5) (at_above 6)) (i - 6) (at_above 7)) (i - 7) (at_above 8)
+      ≡ moved_down (i - 8) i c
+  moved-eight =
+      next 7 (omega arith) _ (next 6 (omega arith) _ (next 5 (omega arith) _ (next 4 (omega arith) _ (next 3 (omega arith) _ (next 2 (omega arith) _ (next 1 (omega arith) _
+      (moved-one d i c h c i (i - 1) (at_above 1) (omega arith) (omega arith) (moved_none i c) refl)))))))
+    where
+      next : (k : ℕ) → k ≤ 7 → (s : List B) → s ≡ moved_down (i - k) i c → set s (i - k) (get_or c (i - (k + 1)) d) ≡ moved_down (i - (k + 1)) i c
+      next k l s e = moved-one d i c h s (i - k) (i - (k + 1)) (get_or c (i - (k + 1)) d) (omega arith) (omega arith) e refl
+
 -- what went down in two turns
 module _ {B : Type 0} (d : B) (at : ℕ) (c : List B) (h : at < length c) where
   more : (i n r : ℕ) → i ≤ at → i ≡ n + r → moved_down r i (moved_down i at c) ≡ moved_down r at c

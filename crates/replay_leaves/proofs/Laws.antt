@@ -1,5 +1,5 @@
 -- What a call's answer and its buffers come to, over plain variables.
-use Rattle.std.specs.Prelude.{Result}
+use Rattle.std.specs.Prelude.{Result, Ok}
 use Prim.Native.Nat.{ℕ}
 use mathlib.Core.Path.{◌≡◌, ap, ◌∙◌}
 use mathlib.Core.Bool.{Bool, ◌&&◌}
@@ -16,7 +16,7 @@ use Rattle.packing.specs.declared.PackedPosting.{PackedPosting}
 use Rattle.packing.specs.Packing.{packed}
 use Rattle.blocking.specs.Blocking.{blocked, offsets_left}
 use Rattle.quantizing.specs.declared.Scale.{Scale}
-use Rattle.quantizing.specs.Quantizing.{left, quantized}
+use Rattle.quantizing.specs.Quantizing.{scale, left, quantized}
 use Rattle.kept_list.specs.declared.Scored.{Scored}
 use Rattle.kept_list.specs.Entry.{scored}
 use Rattle.kept_list.specs.Lent.{lent}
@@ -34,6 +34,10 @@ pub blocks-by : (w : List ℕ) {a : Result ℕ Refusal} {ids size : ℕ} {offset
     → r ≡ is_written a (length wanted) → s ≡ held (map (λ n. n) offsets) wanted 7 → r && s ≡ blocks_agree w
 unfolding blocks_agree
 blocks-by w {offsets = offsets} p q e x r s = rw (r, s, map-id offsets, e.0, e.1, x, p, q)
+
+-- whether a summary is the recorded one, by its two keys, for whoever compares these
+pub summary-by : (a : Result Scale Refusal) (lk sk : ℕ) {least step : Float} {x y : ℕ} → a ≡ Ok (scale least step) → x ≡ key_of least → y ≡ key_of step → eqb x lk && eqb y sk ≡ is_summary a lk sk
+summary-by a lk sk e p q = rw (e, p, q)
 
 pub quantizes-by : (w : List ℕ) {a : Result Scale Refusal} {floats values : List Float} {codes wanted : List ℕ} {least step : ℕ} {r s : Bool}
     → floats ≡ spread value_of 1024 w → values ≡ slice_at w 3 floats → left a codes ≡ quantized values (replicate 64 9)

@@ -3,10 +3,10 @@ use Rattle.std.specs.Prelude.{Some, None}
 use mathlib.Core.Path.{◌≡◌, refl, sym, ap, ◌∙◌}
 use mathlib.Core.List.{List, [], ◌∷◌}
 use mathlib.Core.Bool.{Bool, true, false, ◌&&◌, cond}
-use Prim.Native.Nat.{ℕ, ◌+◌, ◌-◌, ◌≤◌, ◌<◌, ◌%◌}
+use Prim.Native.Nat.{ℕ, ◌+◌, ◌-◌, ◌≤◌, ◌<◌, ◌%◌, min}
 use native.Mathlib.Omega.{arith}
 use native.Mathlib.Numerals.{add-one}
-use borrow.Author.Tests.{lt-ltb, le-ltb, eq-eqb, ne_eqb, eqb-true, eqb-false}
+use borrow.Author.Tests.{lt-ltb, le-ltb, eq-eqb, ne_eqb, ltb-true, ltb-false, eqb-true, eqb-false}
 use lib.ListN.{length, get_or, drop, set, drop_of_length-le}
 use lib.Seq.{drop-cons, drop-length}
 use lib.Dec.{eqb, ltb}
@@ -103,6 +103,22 @@ unfolding laying
 laying-short table [] ws e = refl
 laying-short table (q ∷ qs) [] e = refl
 laying-short table (q ∷ qs) (w ∷ ws) e = let z : ⊥ = omega arith in absurd z
+
+-- the same place by place, for whoever counts places
+module _ (qs : List ℕ) (ws : List Float) where
+  abbrev pub laying_from : List Float → ℕ → List Float
+  laying_from table i = laying table (drop i qs) (drop i ws)
+
+  pub laying-step : (table next : List Float) (i : ℕ) → i < length qs → i < length ws → next ≡ cond (ltb (get_or qs i 0) 32768) (set table (get_or qs i 0) (get_or ws i nan)) table → laying_from next (i + 1) ≡ laying_from table i
+  unfolding laying
+  laying-step table next i h g e = rw (e, add-one i, drop-cons qs i 0 h, drop-cons ws i nan g)
+
+  pub laying-end : (table : List Float) (i : ℕ) → min (length qs) (length ws) ≤ i → laying_from table i ≡ table
+  laying-end table i h = at (ltb i (length qs)) refl
+    where
+      at : (b : Bool) → ltb i (length qs) ≡ b → laying_from table i ≡ table
+      at true e = let l = ltb-true i (length qs) e in let g : length ws ≤ i = omega arith in rw (drop_of_length-le ws g) (sym (laying-short table (drop i qs) [] refl))
+      at false e = rw (drop_of_length-le qs (ltb-false i (length qs) e)) (sym (laying-none table [] (drop i ws) refl))
 
 module _ (table : List Float) (cs : List ℕ) (vs : List Float) where
   abbrev pub laid_from : ℕ → Float → Float

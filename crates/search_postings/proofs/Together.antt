@@ -129,6 +129,11 @@ abbrev paired : Pairing → Bool
 paired (together u) = true
 paired (apart l) = false
 
+-- the first one's turn and the second one's after it, for whoever takes them one by one
+pub two-done : (k p q : ℕ) (c : Counts) (l : Lends) (r : Option Scores) (x y : Float) → r ≡ Some (scores_of x y) → (d : Counts) (m : Lends) → went_on d m ≡ held_known k p x c l → (e : Counts) (n : Lends) → went_on e n ≡ held_known k q y d m
+    → both_turned (Some e) n ≡ held_two k r p q c l
+two-done k p q c l r x y g d m f e n h = ap together (h ∙ ap (λ t. next t (held_known k q y)) f) ∙ ap (λ z. held_two k z p q c l) (sym g)
+
 module _ (k : ℕ) (p q : ℕ) (c : Counts) (l m : Lends) (b : Option Counts) (r : Option Scores) (f : both_turned b m ≡ held_two k r p q c l) where
   two-scored : (d : Counts) → b ≡ Some d → (x y : Float) → r ≡ Some (scores_of x y) → went_on d m ≡ next (held_known k p x c l) (held_known k q y)
   two-scored d e x y g = ap (turned_or (went_on d m)) (ap (λ z. both_turned z m) (sym e) ∙ f ∙ ap (λ z. held_two k z p q c l) g)

@@ -2,3 +2,4 @@ pub mod ExchangeLaws
 pub mod InsertionLaws
 pub mod QuickLaws
 pub mod PlacedLaws
+pub mod ReverseLaws

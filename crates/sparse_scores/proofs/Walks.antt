@@ -1,22 +1,22 @@
 -- What one turn of a scoring loop does to the walk of what is left.
 use mathlib.Core.Path.{◌≡◌, refl, sym, ap, ◌∙◌}
 use mathlib.Core.Bool.{Bool, true, false, cond}
-use mathlib.Core.List.{List, [], ◌∷◌, ◌++◌, zip_with}
+use mathlib.Core.List.{List, [], ◌∷◌, ◌++◌, append_assoc, zip_with}
 use mathlib.Core.Logic.{◌⊎◌, inl, inr}
 use Prim.Native.Nat.{ℕ, zero, suc, ◌+◌, ◌-◌, ◌≤◌, ◌<◌, min}
 use native.Mathlib.Omega.{arith}
 use native.Mathlib.Nat.{min-eq_left, le_trans}
 use native.Mathlib.Decide.{dec_le}
 use native.Mathlib.Numerals.{add-one}
-use lib.ListN.{length, get_or, take, drop, set, replicate, drop_of_length-le, get_or-eq_default}
-use lib.Seq.{slice, slice-cons, take-nil, take_all}
+use lib.ListN.{length, get_or, take, drop, set, replicate, length-replicate, replicate-append-replicate, drop_of_length-le, get_or-eq_default}
+use lib.Seq.{slice, slice-cons, drop-cons, set_at, take-nil, take_all}
 use lib.Dec.{leb, ltb}
 use lib.IntN.{pos}
 use lib.Ieee.{Float, nan, fin, binary32, add, mul}
 use borrow.Author.Tests.{ltb-true, ltb-false, lt-ltb, le-ltb, le-leb, lt-leb, leb-false, eq-eqb, ne_eqb}
 use Rattle.sequences.specs.Lists.{before, between, part}
 use Rattle.sequences.specs.Laws.Lists.{any-default}
-use Rattle.documents.specs.Documents.{paired}
+use Rattle.documents.specs.Documents.{term, paired}
 use Rattle.documents.specs.Sought.{belows, sought}
 use Rattle.quantizing.specs.Quantizing.{read_back}
 use Rattle.sparse_scores.specs.Layout.{Layout, arrays, entry, entries, entries_at, place_of}
@@ -24,6 +24,14 @@ use Rattle.sparse_scores.specs.Scores.{summary_count, scores_of, put_in}
 use Rattle.sparse_scores.specs.Walk.{grown, grown_by, Spans}
 use Rattle.sparse_scores.specs.Laws.Walk.{walked}
 use Rattle.sparse_scores.specs.Laws.WalkLaws.{walk-scores}
+
+-- ---- clearing, place by place, for whoever counts places
+pub clear_step : {A : Type 0} (z : A) (scores : List A) (i : ℕ) → i < length scores → set (replicate i z ++ drop i scores) i z ≡ replicate (i + 1) z ++ drop (i + 1) scores
+clear_step z scores i h =
+    ap (λ l. set (replicate i z ++ l) i z) (drop-cons scores i z h)
+    ∙ set_at (replicate i z) (get_or scores i z) (drop (suc i) scores) z i (length-replicate i z)
+    ∙ sym (append_assoc (replicate i z) (z ∷ []) (drop (suc i) scores))
+    ∙ rw (replicate-append-replicate i 1 z, add-one i)
 
 -- ---- seeking
 belows_place : (c : ℕ) (cs : List ℕ) → belows c cs ≡ place_of c cs
@@ -156,6 +164,21 @@ module _ (ids codes : List ℕ) where
   unfolding entries_at
   term-added n place c v cs os ms ss f t e k scores next s p q r =
       r ∙ ap (λ es. grown_by n ms ss v es scores) (ap (λ z. slice f z (entries ids codes)) (q ∙ ap (min t) p) ∙ clipped f t ∙ s (entries ids codes))
+
+-- the pairs from a place on, and how many there are, for whoever counts places
+module _ (qs : List ℕ) (ws : List Float) where
+  paired_at : (cs : List ℕ) (vs : List Float) (i : ℕ) → i < length cs → i < length vs → drop i (paired cs vs) ≡ term (get_or cs i 0) (get_or vs i nan) ∷ drop (i + 1) (paired cs vs)
+  unfolding paired zip_with
+  paired_at [] vs i h k = let z : ⊥ = omega arith in absurd z
+  paired_at (c ∷ cs) [] i h k = let z : ⊥ = omega arith in absurd z
+  paired_at (c ∷ cs) (v ∷ vs) zero h k = refl
+  paired_at (c ∷ cs) (v ∷ vs) (suc i) h k = let z : suc i + 1 ≡ suc (i + 1) = omega arith in rw z (paired_at cs vs i (omega arith) (omega arith))
+
+  paired-few : (cs : List ℕ) (vs : List Float) → length (paired cs vs) ≤ min (length cs) (length vs)
+  unfolding paired zip_with
+  paired-few [] vs = omega arith
+  paired-few (c ∷ cs) [] = omega arith
+  paired-few (c ∷ cs) (v ∷ vs) = let i = paired-few cs vs in omega arith
 
 -- one pair of the query more, where what is left of its two lists is known
 pub query-turn : (n : ℕ) (l : Layout) (cs : List ℕ) (c : ℕ) (v : Float) (qs left : List ℕ) (ws rest : List Float) (place : ℕ) (scores next : List Float) → qs ≡ c ∷ left → ws ≡ v ∷ rest → cs ≡ l.summary_components → place ≡ place_of c cs

@@ -1,10 +1,11 @@
 -- The loops one turn at a time.
-use Prim.Native.Nat.{ℕ, ◌+◌, ◌-◌, ◌≤◌, ◌<◌, min}
+use Prim.Native.Nat.{ℕ, suc, ◌+◌, ◌-◌, ◌≤◌, ◌<◌, min}
+use native.Mathlib.Omega.{arith}
 use native.Mathlib.Numerals.{add-one}
 use mathlib.Core.Path.{◌≡◌, refl, sym, ap, ◌∙◌}
 use mathlib.Core.Bool.{Bool, true, false, ◌&&◌, cond}
 use mathlib.Core.List.{List, [], ◌∷◌, map, foldl, zip_with, foldl-append}
-use lib.ListN.{length, get_or, take, drop, set}
+use lib.ListN.{length, get_or, take, drop, set, length-take, length-drop}
 use lib.Seq.{drop-cons, drop-length}
 use lib.Dec.{ltb, eqb}
 use lib.Ieee.{Float, nan, lt}
@@ -19,7 +20,7 @@ use Rattle.sequences.specs.Lists.{joined}
 use Rattle.documents.specs.declared.TermPlaces.{TermPlaces}
 use Rattle.documents.specs.Answers.{places_of}
 use Rattle.documents.specs.Documents.{term, paired, Documents, terms}
-use Rattle.documents.specs.Laws.Places.{terms-at}
+use Rattle.documents.specs.Laws.Places.{paired-drop, terms-at}
 use Rattle.summary_maximum.specs.Maximum.{below}
 use Rattle.summary_maximum.specs.Meeting.{Met, met, meets, meets_below}
 use Rattle.summary_maximum.specs.Laws.Limited.{fold-below}
@@ -60,6 +61,15 @@ met-below limit s s' c v h e = e ∙ sym (ap (λ b. cond b (meets s (term c v)) 
 pub passed_over : (limit : ℕ) (s : Met) (c : ℕ) (v : Float) → limit ≤ c → s ≡ meets_below limit s (term c v)
 passed_over limit s c v h = sym (ap (λ b. cond b (meets s (term c v)) s) (le-ltb c limit h))
 
+-- the terms of two slices from a place on, for whoever counts places
+pub paired-next : (cs : List ℕ) (vs : List Float) (i : ℕ) → i < length cs → length cs ≡ length vs → drop i (paired cs vs) ≡ term (get_or cs i 0) (get_or vs i nan) ∷ drop (i + 1) (paired cs vs)
+unfolding paired zip_with
+paired-next cs vs i h e =
+    sym (paired-drop i cs vs)
+    ∙ ap (λ l. paired l (drop i vs)) (drop-cons cs i 0 h)
+    ∙ ap (λ l. paired (get_or cs i 0 ∷ drop (suc i) cs) l) (drop-cons vs i nan (omega arith))
+    ∙ ap (λ l. term (get_or cs i 0) (get_or vs i nan) ∷ l) (paired-drop (suc i) cs vs ∙ ap (λ k. drop k (paired cs vs)) (sym (add-one i)))
+
 -- ---- the next pair of two slices that are passed over together
 pub next_pair : {A B : Type 0} (s t : Zip (Iter A) (Iter B)) (r : Option (Bor A × Bor B)) (p : Bor A × Bor B) → r ≡ Some p → zips fronts fronts s r t
     → (iter_rest (zip_first s) ≡ p.0.now ∷ iter_rest (zip_first t)) × (iter_rest (zip_second s) ≡ p.1.now ∷ iter_rest (zip_second t))
@@ -79,6 +89,13 @@ module _ (limit : ℕ) {cs : List ℕ} {vs : List Float} {w : Met} (s : Met) whe
 module _ (d : Documents) (count i : ℕ) (p : TermPlaces) (e : p ≡ places_of d.offsets count i) where
   pub part-terms : count ≡ min (length d.components) (length d.values) → terms d i ≡ paired (take (p.to - p.from) (drop p.from d.components)) (take (p.to - p.from) (drop p.from d.values))
   part-terms C = terms-at d i count C ∙ ap (λ p. paired (take (p.to - p.from) (drop p.from d.components)) (take (p.to - p.from) (drop p.from d.values))) (sym e)
+
+-- the same part of two slices that both reach its end has as many in each
+pub part-even : {A B : Type 0} (f t : ℕ) (xs : List A) (ys : List B) → f ≤ t → t ≤ length xs → t ≤ length ys → length (take (t - f) (drop f xs)) ≡ length (take (t - f) (drop f ys))
+part-even f t xs ys o h k =
+    let a : length (drop f xs) ≡ length xs - f = length-drop f xs in
+    let b : length (drop f ys) ≡ length ys - f = length-drop f ys in
+    length-take (t - f) (drop f xs) ∙ (let z : min (t - f) (length (drop f xs)) ≡ min (t - f) (length (drop f ys)) = omega arith in z) ∙ sym (length-take (t - f) (drop f ys))
 
 module _ (limit : ℕ) (d : Documents) where
   abbrev pub meets_document : Met → ℕ → Met

@@ -4,7 +4,7 @@ use native.Mathlib.Omega.{arith}
 use native.Mathlib.Numerals.{add-one}
 use mathlib.Core.Path.{◌≡◌, refl, ap, ◌∙◌}
 use mathlib.Core.Bool.{true, false, cond}
-use mathlib.Core.List.{List, [], ◌∷◌, ◌++◌, map, zip_with, map-append, foldl-append}
+use mathlib.Core.List.{List, [], ◌∷◌, ◌++◌, map, foldl, zip_with, map-append, foldl-append}
 use lib.ListN.{length, get_or, take, drop, set, length-map}
 use lib.Seq.{drop-cons, drop-length}
 use lib.Ieee.{Float, nan, binary32, add, mul, le}
@@ -40,6 +40,13 @@ join-end n ks ms b e h l = e ∙ rw h (join-all ks ms l)
 -- ---- the running sum of the keys' values
 pub one_more : (ks : List ℕ) (k : ℕ) → sum (map value_of_term (ks ++ (k ∷ []))) ≡ add binary32 (sum (map value_of_term ks)) (value_of_term k)
 one_more ks k = ap sum (map-append value_of_term ks (k ∷ [])) ∙ foldl-append (add binary32) zero_value (map value_of_term ks) (value_of_term k ∷ [])
+
+-- the same place by place, for whoever counts places
+pub total-step : (a a' w : Float) (ks : List ℕ) (i : ℕ) → i < length ks → foldl (add binary32) a (map value_of_term (drop i ks)) ≡ w → a' ≡ add binary32 a (value_of_term (get_or ks i 0)) → foldl (add binary32) a' (map value_of_term (drop (i + 1) ks)) ≡ w
+total-step a a' w ks i h e q = let d = drop-cons ks i 0 h in rw (q, add-one i) (rw d at e)
+
+pub total-end : (a w : Float) (ks : List ℕ) (i : ℕ) → i ≡ length ks → foldl (add binary32) a (map value_of_term (drop i ks)) ≡ w → a ≡ w
+total-end a w ks i e h = rw (e, drop-length ks) at h
 
 module _ (goal : Float) (ks : List ℕ) (i : ℕ) (h : i < length ks) (w : ℕ) (a a' : Float) (e : i + reached_by goal a (map value_of_term (drop i ks)) ≡ w) (q : a' ≡ add binary32 a (value_of_term (get_or ks i 0))) where
   turn : i + suc (cond (le goal a') 0 (reached_by goal a' (map value_of_term (drop (i + 1) ks)))) ≡ w
