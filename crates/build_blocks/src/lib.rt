@@ -22,7 +22,7 @@ fn copy(ids: &[u64], order: &mut [u64])
     requires { length ids.now ≤ length order.old }
     ensures { order.new ≡ laid ids.now order.old }
 {
-    order[..ids.len()].copy_from_slice(ids);
+    cells::copy(ids, order);
 }
 
 // Blocks of a fixed size: the documents stay as they are listed.

@@ -21,7 +21,7 @@ pub fn keep(at: usize, keys: &[u64], store: &mut [u64]) -> usize
     let from = at + 1;
     let end = from + n;
     store[at] = n as u64;
-    store[from..end].copy_from_slice(keys);
+    cells::copy(keys, &mut store[from..end]);
     end
 }
 

@@ -41,8 +41,7 @@ fn write_postings(offsets: &[u64], order: &[u64], postings: &mut [u64])
 fn write_offsets(blocks: &[u64], block_offsets: &mut [u64])
     ensures { block_offsets.new ≡ sets block_offsets.old 0 blocks.now }
 {
-    let end = blocks.len().min(block_offsets.len());
-    block_offsets[..end].copy_from_slice(&blocks[..end]);
+    cells::copy(blocks, block_offsets);
 }
 
 // Lays out the components whose counts stand in front of `entry_counts`, places the entries of the blocks' summaries, and writes the postings

@@ -1,7 +1,8 @@
 -- Where there is no place nothing changes; else the number and the keys are a frame.
-use mathlib.Core.Path.{refl}
+use mathlib.Core.Path.{refl, ◌∙◌}
 use lib.ListN.{length, length-set}
 use native.Mathlib.Omega.{arith}
+use Rattle.cells.specs.Laws.Copied.{copied-whole}
 use Rattle.build_kept_keys.proofs.Laws.{full-place, full-store, frame-inside, kept-place, kept_store, part-written}
 use Rattle.build_kept_keys.proofs.keep.Goals as goal
 
@@ -19,5 +20,5 @@ returns c =
     let same = length-set a.store.now a.at (length a.keys.now) in record {
       place = kept-place a.at a.keys.now a.store.now p.result p.ensures c.if-saturating_sub-n.false;
       store = kept_store a.at a.keys.now a.store.now p.result p.ensures c.if-saturating_sub-n.false _ refl _
-          (part-written _ _ _ _ a.keys.now (omega arith) (omega arith) c.copy_from_slice.ensures.after);
+          (part-written _ _ _ _ a.keys.now (omega arith) (omega arith) (c.copy.ensures ∙ copied-whole a.keys.now _ (omega arith)));
     }

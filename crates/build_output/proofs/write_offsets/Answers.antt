@@ -1,12 +1,13 @@
 -- `write_offsets` sets the offsets from the start on, as far as there is room.
-use mathlib.Core.Path.{ap, ◌∙◌}
-use mathlib.Core.List.{◌++◌}
-use lib.ListN.{drop}
+use mathlib.Core.Path.{refl, sym, ◌∙◌}
+use Prim.Native.Nat.{min}
+use lib.ListN.{length}
+use Rattle.cells.specs.Laws.Copied.{copy-end}
 use Rattle.build_output.proofs.Laws.{in-front}
 use Rattle.build_output.proofs.write_offsets.Goals as goal
 
 pub returns : goal.returns
 returns c =
     let a = c.args in
-    let n = c.min-end in
-    ap (λ l. l ++ drop n.result a.block_offsets.now) c.copy_from_slice.ensures.after ∙ in-front a.blocks.now a.block_offsets.now n.result n.ensures
+    let n = min (length a.blocks.now) (length a.block_offsets.now) in
+    c.copy.ensures ∙ sym (copy-end a.blocks.now a.block_offsets.now n refl) ∙ in-front a.blocks.now a.block_offsets.now n refl
