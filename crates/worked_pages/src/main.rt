@@ -148,8 +148,16 @@ fn search_two_blocks(rt: &impl Print) -> io::Result<()> {
 fn pack_all(rt: &impl Print) -> io::Result<()> {
     for (asked, start, end) in [
         ("3..7", RangeStart(3), 7),
-        ("start 2^48-1, length 0", RangeStart(0xffff_ffff_ffff), 0xffff_ffff_ffff),
-        ("start 2^48", RangeStart(0x1_0000_0000_0000), 0x1_0000_0000_0000),
+        (
+            "start 2^48-1, length 0",
+            RangeStart(0xffff_ffff_ffff),
+            0xffff_ffff_ffff,
+        ),
+        (
+            "start 2^48",
+            RangeStart(0x1_0000_0000_0000),
+            0x1_0000_0000_0000,
+        ),
         ("length 65535", RangeStart(0), 65535),
         ("length 65536", RangeStart(0), 65536),
     ] {
